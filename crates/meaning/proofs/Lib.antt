@@ -1,0 +1,6 @@
+pub mod Numbers
+pub mod Splices
+pub mod Tests
+pub mod Structures
+pub mod Walks
+pub mod Fuel

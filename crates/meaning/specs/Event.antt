@@ -1,0 +1,194 @@
+-- Events: what a discontinuity or an activity answers, and what it leaves in the message and in the report buffer.
+use Prim.Native.Nat.{ℕ, zero, suc, _+_}
+use mathlib.Core.Bool.{Bool, true, false, cond, not, _&&_, _||_}
+use mathlib.Core.List.{List, [], _∷_, _++_}
+use lib.ListN.{length}
+use lib.Dec.{leb, ltb, eqb}
+use Rattle.meaning.specs.Bytes.{Part, num, words, splice, bump}
+use Rattle.meaning.specs.Names.{mostBytes, mostCount, «MQCFT_GROUP», «MQGACF_ACTIVITY», «MQROUTE_DETAIL_LOW», «MQROUTE_DETAIL_MEDIUM», «MQROUTE_DETAIL_HIGH», «MQROUTE_ACCUMULATE_NONE», «MQROUTE_ACCUMULATE_AND_REPLY», «MQROUTE_UNLIMITED_ACTIVITIES», Detail, RecordedActivities, UnrecordedActivities, DiscontinuityCount, MaxActivities, Accumulate, badGroup, «MQFB_MAX_ACTIVITIES», counterFull, noRoom, reportTooShort}
+use Rattle.meaning.specs.Answer.{Result, accepted, refused, when, unless}
+use Rattle.meaning.specs.Walk.{Walked, walk}
+use Rattle.meaning.specs.Message.{countPlace, partOf}
+use Rattle.meaning.specs.Trace.{Terms, Trace, value, valuePlace, readTrace}
+use Rattle.meaning.specs.Compose.{reportHeaderFields}
+
+-- WHAT HAPPENS
+pub data Level : Type 0 where
+  low medium high : Level
+
+-- an activity: its level, the lent Activity group, and whether the descriptor asks for activity reports
+pub record Activity : Type 0 where
+  pub level : Level
+  pub group : List ℕ
+  pub reportsAsked : Bool
+
+-- whether the queue manager does activity recording, and whether it does trace-route messaging
+pub record Settings : Type 0 where
+  pub activityRecording : Bool
+  pub traceRouteMessaging : Bool
+
+-- each activity comes with its settings; for a discontinuity they play no part
+pub data Event : Type 0 where
+  discontinuity : Event
+  activity : Activity → Settings → Event
+
+-- THE LENT GROUP is one whole group 8005, sound as if top-level, with nothing after it, 16 to 65,500 bytes: with a
+-- report's header in front it is a message too. It is walked as a part of its own.
+abbrev pub lent : List ℕ → Part
+lent g = record { bytes = g; start = 0; end = length g }
+
+abbrev pub endsAt : ℕ → Result Walked → Bool
+endsAt n (accepted w) = eqb (w .next) n
+endsAt n (refused k p) = false
+
+unfoldable pub groupOk : List ℕ → Bool
+groupOk g =
+    leb 16 (length g) && (leb (length g) 65500 && (eqb (num (lent g) 0) «MQCFT_GROUP» && (eqb (num (lent g) 8) «MQGACF_ACTIVITY»
+    && endsAt (length g) (walk (lent g) 0 1 1))))
+
+-- an event's group, and whether it is sound; a discontinuity needs none
+unfoldable pub groupOf : Event → List ℕ
+groupOf discontinuity = []
+groupOf (activity a s) = a .group
+
+unfoldable pub soundEvent : Event → Bool
+soundEvent discontinuity = true
+soundEvent (activity a s) = groupOk (a .group)
+
+-- WHAT IS DUE
+-- a level as a value of Detail: low is below medium, medium below high
+abbrev pub rank : Level → ℕ
+rank low = «MQROUTE_DETAIL_LOW»
+rank medium = «MQROUTE_DETAIL_MEDIUM»
+rank high = «MQROUTE_DETAIL_HIGH»
+
+-- "Activity whose level is less than Detail: unrecorded"
+unfoldable pub unrecordedForLevel : Level → ℕ → Bool
+unrecordedForLevel level detail = ltb (rank level) detail
+
+-- otherwise: reported if reports are asked for and activity recording is on
+unfoldable pub reported : List ℕ → Activity → Settings → Bool
+reported v a s = not (unrecordedForLevel (a .level) (value v Detail)) && (a .reportsAsked && s .activityRecording)
+
+-- and accumulated if Accumulate isn't none and trace-route messaging is on
+unfoldable pub accumulated : List ℕ → Activity → Settings → Bool
+accumulated v a s =
+    not (unrecordedForLevel (a .level) (value v Detail)) && (not (eqb (value v Accumulate) «MQROUTE_ACCUMULATE_NONE») && s .traceRouteMessaging)
+
+-- recorded if either holds, else unrecorded
+abbrev pub recordedIn : Bool → ℕ
+recordedIn true = RecordedActivities
+recordedIn false = UnrecordedActivities
+
+-- which counter is to rise, and whether the group is to be appended and reported
+pub record Plan : Type 0 where
+  pub counter : ℕ
+  pub appends : Bool
+  pub reports : Bool
+
+unfoldable pub planOf : List ℕ → Event → Plan
+planOf v discontinuity = record { counter = DiscontinuityCount; appends = false; reports = false }
+planOf v (activity a s) = record {
+  counter = recordedIn (reported v a s || accumulated v a s);
+  appends = accumulated v a s;
+  reports = reported v a s;
+}
+
+-- THE ANSWER: which counter rose, whether the group was appended, the report's length or 0, the new message length
+pub record Done : Type 0 where
+  pub counter : ℕ
+  pub appended : Bool
+  pub reportLength : ℕ
+  pub messageLength : ℕ
+
+-- a refusal has number and place; 10 also says whether a reply is owed
+pub data Answer : Type 0 where
+  done : Done → Answer
+  denied : ℕ → ℕ → Bool → Answer
+
+-- the three counters' sum, a whole number
+unfoldable pub sum : List ℕ → ℕ
+sum v = value v RecordedActivities + value v UnrecordedActivities + value v DiscontinuityCount
+
+-- 10: the limit is not 0, and the counters' sum plus one is above it
+unfoldable pub overLimit : List ℕ → Bool
+overLimit v = ltb «MQROUTE_UNLIMITED_ACTIVITIES» (value v MaxActivities) && ltb (value v MaxActivities) (sum v + 1)
+
+unfoldable pub replyOwed : List ℕ → Bool
+replyOwed v = eqb (value v Accumulate) «MQROUTE_ACCUMULATE_AND_REPLY»
+
+-- a report is a 36-byte header, then the group
+abbrev pub reportLength : ℕ → ℕ
+reportLength size = 36 + size
+
+-- What a plan answers for the values v, a group of `size` bytes, a message of len bytes in a buffer of `room` bytes, and
+-- a report buffer of `reportRoom` bytes: 10; 11, the counter to raise is 2^31 - 1; 12, no room to append; 13, a report is
+-- due and its buffer too short; or done.
+unfoldable pub decide : List ℕ → Plan → ℕ → ℕ → ℕ → ℕ → Answer
+decide v p size len room reportRoom =
+    when (overLimit v) (denied «MQFB_MAX_ACTIVITIES» 0 (replyOwed v))
+    (when (eqb (value v (p .counter)) mostCount) (denied counterFull 0 false)
+    (when (p .appends && not (leb (len + size) room && leb (len + size) mostBytes)) (denied noRoom 0 false)
+    (when (p .reports && not (leb (reportLength size) reportRoom)) (denied reportTooShort 0 false)
+    (done (record {
+      counter = p .counter;
+      appended = p .appends;
+      reportLength = cond (p .reports) (reportLength size) 0;
+      messageLength = len + cond (p .appends) size 0;
+    })))))
+
+-- WHAT IS LEFT
+-- the message buffer, the message's length in it, and the report buffer
+pub record State : Type 0 where
+  pub buf : List ℕ
+  pub len : ℕ
+  pub report : List ℕ
+
+-- appended: the header's ParameterCount one higher, the group from the first byte behind the old end on
+unfoldable pub grown : Part → List ℕ → List ℕ → List ℕ
+grown s b g = splice (bump s b (countPlace s)) (s .end) g
+
+abbrev pub grownIf : Bool → Part → List ℕ → List ℕ → List ℕ
+grownIf true s b g = grown s b g
+grownIf false s b g = b
+
+-- reported: the report's header and the group; the bytes behind it stay
+unfoldable pub reportOf : List ℕ → List ℕ
+reportOf g = words reportHeaderFields ++ g
+
+abbrev pub reportedIf : Bool → List ℕ → List ℕ → List ℕ
+reportedIf true r g = splice r 0 (reportOf g)
+reportedIf false r g = r
+
+-- done: the Value of the counter one higher; then as planned. No other byte changes.
+unfoldable pub applied : State → List ℕ → List ℕ → Plan → State
+applied st g places p = record {
+  buf = grownIf (p .appends) (partOf (st .buf) (st .len))
+      (bump (partOf (st .buf) (st .len)) (st .buf) (valuePlace (value places (p .counter)))) g;
+  len = st .len + cond (p .appends) (length g) 0;
+  report = reportedIf (p .reports) (st .report) g;
+}
+
+pub record Outcome : Type 0 where
+  pub answer : Answer
+  pub next : State
+
+-- a refusal leaves all as it was
+abbrev pub leaving : State → State → Answer → Outcome
+leaving st st′ (done d) = record { answer = done d; next = st′ }
+leaving st st′ (denied n p owed) = record { answer = denied n p owed; next = st }
+
+-- an event on a trace that is read: 9, then what is decided
+unfoldable pub onTrace : State → Event → Trace → Outcome
+onTrace st e t =
+    unless (soundEvent e) (record { answer = denied badGroup 0 false; next = st })
+    (leaving st (applied st (groupOf e) (t .places) (planOf (t .values) e))
+    (decide (t .values) (planOf (t .values) e) (length (groupOf e)) (st .len) (length (st .buf)) (length (st .report))))
+
+abbrev pub onRead : State → Event → Result Trace → Outcome
+onRead st e (accepted t) = onTrace st e t
+onRead st e (refused n p) = record { answer = denied n p false; next = st }
+
+-- EVENT: 17, 1 to 8 as in Read, then 9 to 13
+unfoldable pub event : Terms → State → Event → Outcome
+event tm st e = onRead st e (readTrace tm (st .buf) (st .len))

@@ -1,0 +1,14 @@
+pub mod Bytes
+pub mod Names
+pub mod Answer
+pub mod Structure
+pub mod Walk
+pub mod Message
+pub mod Listing
+pub mod Trace
+pub mod Compose
+pub mod Event
+pub mod Decision
+pub mod Activity
+pub mod View
+pub mod Demand3
