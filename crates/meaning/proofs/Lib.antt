@@ -4,3 +4,13 @@ pub mod Tests
 pub mod Structures
 pub mod Walks
 pub mod Fuel
+pub mod Kept
+pub mod Attributes
+pub mod Sound
+pub mod Changed
+pub mod Applied
+pub mod Plans
+pub mod Spans
+pub mod Views
+pub mod Twins
+pub mod Demand3

@@ -11,7 +11,7 @@ use Rattle.meaning.specs.Bytes.{Part, num, word}
 use Rattle.meaning.specs.Answer.{Result, accepted, refused, andThen}
 use Rattle.meaning.specs.Structure.{Row, structureAt}
 use Rattle.meaning.specs.Walk.{Walked, walked, followedBy, ahead, enter, walkFuel, walk}
-use Rattle.meaning.proofs.Tests.{clash, then-accepted}
+use Rattle.meaning.proofs.Tests.{clash}
 use Rattle.meaning.proofs.Structures.{RowAt, row-at, moved, Match, structure-match}
 
 pub data Walks (s : Part) : ℕ → ℕ → ℕ → List Row → ℕ → Type 0 where
@@ -39,38 +39,45 @@ walked-rows {rows} {rows′} {q} {q′} e =
     (ap (λ (x : Walked). x .rows) f, ap (λ (x : Walked). x .next) f)
 
 joined : (w : Result Walked) (go : ℕ → Result Walked) (rows : List Row) (q : ℕ) → followedBy w go ≡ walked rows q → Joined w go rows q
-joined w go rows q e =
-    let a = then-accepted w _ _ e in
-    let b = then-accepted (go (a .0 .next)) _ _ (a .2) in
-    let c = walked-rows (b .2) in
-    record {
-      rows₁ = a .0 .rows;
-      middle = a .0 .next;
-      rows₂ = b .0 .rows;
-      inner = a .1;
-      rest = b .1 ∙ ap (λ (x : ℕ). walked (b .0 .rows) x) (c .1);
-      all = c .0;
-    }
+joined (accepted x) go rows q e = by (go (x .next)) refl e
+  where
+    by : (v : Result Walked) → go (x .next) ≡ v → andThen v (λ y. walked (x .rows ++ y .rows) (y .next)) ≡ walked rows q → Joined (accepted x) go rows q
+    by (accepted y) f e =
+        let c = walked-rows e in
+        record {
+          rows₁ = x .rows;
+          middle = x .next;
+          rows₂ = y .rows;
+          inner = refl;
+          rest = f ∙ ap (λ (n : ℕ). walked (y .rows) n) (c .1);
+          all = c .0;
+        }
+    by (refused n p) f e = absurd (clash (cc))
+joined (refused n p) go rows q e = absurd (clash (cc))
+
+ahead-inv : (r : Row) (w : Result Walked) (rows : List Row) (q : ℕ) → ahead r w ≡ walked rows q → (rs : List Row) × (w ≡ walked rs q) × (r ∷ rs ≡ rows)
+ahead-inv r (accepted x) rows q e = let c = walked-rows e in (x .rows, ap (λ (n : ℕ). walked (x .rows) n) (c .1), c .0)
+ahead-inv r (refused n p) rows q e = absurd (clash (cc))
 
 -- an accepted walk is a derivation
 walks-more : (f : ℕ) (s : Part) (p d n : ℕ) (rows : List Row) (q : ℕ)
     → ((p d n : ℕ) (rows : List Row) (q : ℕ) → walkFuel f s p d n ≡ walked rows q → Walks s p d n rows q)
-    → enter (structureAt s p d) (λ r. walkFuel f s (p + r .size) (suc d) (r .members)) (λ q. walkFuel f s q d n) ≡ walked rows q
+    → (t : Result Row) → structureAt s p d ≡ t
+    → enter t (λ r. walkFuel f s (p + r .size) (suc d) (r .members)) (λ q. walkFuel f s q d n) ≡ walked rows q
     → Walks s p d (suc n) rows q
-walks-more f s p d n rows q ih e =
-    let a = then-accepted (structureAt s p d) _ _ e in
-    let b = then-accepted (followedBy (walkFuel f s (p + a .0 .size) (suc d) (a .0 .members)) (λ q. walkFuel f s q d n)) _ _ (a .2) in
-    let c = walked-rows (b .2) in
-    let w = joined (walkFuel f s (p + a .0 .size) (suc d) (a .0 .members)) (λ q. walkFuel f s q d n) (b .0 .rows) q (b .1 ∙ ap (λ (x : ℕ). walked (b .0 .rows) x) (c .1)) in
-    let eq : a .0 ∷ (w .rows₁ ++ w .rows₂) ≡ rows = ap (λ (l : List Row). a .0 ∷ l) (w .all) ∙ c .0 in
-    rw (← eq) (more (a .1) (ih _ (suc d) (a .0 .members) _ _ (w .inner)) (ih _ d n _ _ (w .rest)))
+walks-more f s p d n rows q ih (accepted r) t e =
+    let b = ahead-inv r _ rows q e in
+    let w = joined (walkFuel f s (p + r .size) (suc d) (r .members)) (λ q. walkFuel f s q d n) (b .0) q (b .1) in
+    let eq : r ∷ (w .rows₁ ++ w .rows₂) ≡ rows = ap (λ (l : List Row). r ∷ l) (w .all) ∙ b .2 in
+    rw (← eq) (more t (ih (p + r .size) (suc d) (r .members) (w .rows₁) (w .middle) (w .inner)) (ih (w .middle) d n (w .rows₂) q (w .rest)))
+walks-more f s p d n rows q ih (refused k x) t e = absurd (clash (cc))
 
 pub walks-fuel : (f : ℕ) (s : Part) (p d n : ℕ) (rows : List Row) (q : ℕ) → walkFuel f s p d n ≡ walked rows q → Walks s p d n rows q
 unfolding walkFuel
 walks-fuel zero s p d zero rows q e = let h = walked-rows e in rw (← h .0, ← h .1) none
 walks-fuel zero s p d (suc n) rows q e = absurd (clash (cc))
 walks-fuel (suc f) s p d zero rows q e = let h = walked-rows e in rw (← h .0, ← h .1) none
-walks-fuel (suc f) s p d (suc n) rows q e = walks-more f s p d n rows q (λ p d n rows q e. walks-fuel f s p d n rows q e) e
+walks-fuel (suc f) s p d (suc n) rows q e = walks-more f s p d n rows q (λ p d n rows q e. walks-fuel f s p d n rows q e) (structureAt s p d) refl e
 
 pub walks : (s : Part) (p d n : ℕ) (rows : List Row) (q : ℕ) → walk s p d n ≡ walked rows q → Walks s p d n rows q
 unfolding walk

@@ -178,12 +178,18 @@ abbrev pub leaving : State → State → Answer → Outcome
 leaving st st′ (done d) = record { answer = done d; next = st′ }
 leaving st st′ (denied n p owed) = record { answer = denied n p owed; next = st }
 
+-- what is decided of an event on a trace with the values v, and what it leaves if it is done
+abbrev pub decided : State → Event → List ℕ → Answer
+decided st e v = decide v (planOf v e) (length (groupOf e)) (st .len) (length (st .buf)) (length (st .report))
+
+abbrev pub performed : State → Event → Trace → State
+performed st e t = applied st (groupOf e) (t .places) (planOf (t .values) e)
+
 -- an event on a trace that is read: 9, then what is decided
 unfoldable pub onTrace : State → Event → Trace → Outcome
 onTrace st e t =
     unless (soundEvent e) (record { answer = denied badGroup 0 false; next = st })
-    (leaving st (applied st (groupOf e) (t .places) (planOf (t .values) e))
-    (decide (t .values) (planOf (t .values) e) (length (groupOf e)) (st .len) (length (st .buf)) (length (st .report))))
+    (leaving st (performed st e t) (decided st e (t .values)))
 
 abbrev pub onRead : State → Event → Result Trace → Outcome
 onRead st e (accepted t) = onTrace st e t

@@ -39,9 +39,12 @@ abbrev pub seeing : View → View → Answer → Seen
 seeing w w′ (done d) = record { answer = done d; next = w′ }
 seeing w w′ (denied n p owed) = record { answer = denied n p owed; next = w }
 
+-- what is decided of an event with a sound group
+abbrev pub verdict : View → Event → Answer
+verdict w e = decide (w .values) (planOf (w .values) e) (length (groupOf e)) (w .len) (w .room) (length (w .report))
+
 -- the event, said of the view alone
 unfoldable pub seen : View → Event → Seen
 seen w e =
     unless (soundEvent e) (record { answer = denied badGroup 0 false; next = w })
-    (seeing w (viewAfter w (groupOf e) (planOf (w .values) e))
-    (decide (w .values) (planOf (w .values) e) (length (groupOf e)) (w .len) (w .room) (length (w .report))))
+    (seeing w (viewAfter w (groupOf e) (planOf (w .values) e)) (verdict w e))

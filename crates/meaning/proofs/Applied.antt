@@ -1,0 +1,239 @@
+-- What an accepted event leaves is a sound trace: the same places, one counter one higher, every other value as it was;
+-- with the group appended its rows stand behind the others.
+use mathlib.Core.Path.{_≡_, refl, sym, ap, _∙_, subst}
+use mathlib.Core.Bool.{Bool, true, false, cond, not, _&&_, _||_}
+use mathlib.Core.List.{List, [], _∷_, _++_, map}
+use Prim.Native.Nat.{ℕ, zero, suc, _+_, _*_, _-_, _%_, _≤_, _<_}
+use native.Mathlib.Nat.{add-zero, zero-add, add-assoc}
+use native.Mathlib.Omega.{arith}
+use lib.ListN.{length, getD, set, take, drop, length-append, length-drop, length-set, length-map}
+use lib.Seq.{length-take-le, getD-take, getD-drop, getD-append-add, ext-getD, getD-set-same, getD-set-other}
+use lib.Dec.{leb, ltb, eqb}
+use borrow.Author.Tests.{ltb-true, lt-ltb, leb-true, leb-false, le-leb, eqb-true, eqb-false}
+use Rattle.meaning.specs.Bytes.{Part, num, splice, store, bump}
+use Rattle.meaning.specs.Names.{«MQCFT_GROUP», «MQGACF_ACTIVITY»}
+use Rattle.meaning.specs.Answer.{Result, accepted, refused}
+use Rattle.meaning.specs.Structure.{Row, small}
+use Rattle.meaning.specs.Walk.{Walked, walked, walk}
+use Rattle.meaning.specs.Message.{parameterCount, countPlace, partOf}
+use Rattle.meaning.specs.Trace.{Terms, Trace, value, valuePlace, valueAt, valuesAt, sheetOk}
+use Rattle.meaning.specs.Event.{lent, endsAt, groupOk, grown}
+use Rattle.meaning.specs.View.{risen}
+use Rattle.meaning.proofs.Tests.{clash, and-true, true-and}
+use Rattle.meaning.proofs.Structures.{Match, num-match, num-same}
+use Rattle.meaning.proofs.Walks.{Walks, walks, walks-as, walks-shift, shift}
+use Rattle.meaning.proofs.Splices.{length-splice, splice-before, splice-in, length-store, store-same, num-store}
+use Rattle.meaning.proofs.Sound.{SoundMessage, Sound, InBuffer}
+use Rattle.meaning.proofs.Changed.{Changed, Lies, lies, InRange, in-range, length-places, length-values, value-of, values-kept, count-le, sound-raised, sound-appended, OneActivity}
+
+-- a sound group, as its walk
+pub record Group (g : List ℕ) : Type 0 where
+  pub rows : List Row
+  pub tree : Walks (lent g) 0 1 1 rows (length g)
+  pub kind : num (lent g) 0 ≡ «MQCFT_GROUP»
+  pub parameter : num (lent g) 8 ≡ «MQGACF_ACTIVITY»
+  pub least : 16 ≤ length g
+  pub most : length g ≤ 65500
+
+group-walk : (g : List ℕ) (w : Result Walked) → walk (lent g) 0 1 1 ≡ w → endsAt (length g) w ≡ true → (rows : List Row) × Walks (lent g) 0 1 1 rows (length g)
+group-walk g (accepted w) e h =
+    (w .rows, rw (eqb-true (w .next) (length g) h) at (walks (lent g) 0 1 1 (w .rows) (w .next) e))
+group-walk g (refused n p) e h = absurd (clash (cc))
+
+pub group : (g : List ℕ) → groupOk g ≡ true → Group g
+unfolding groupOk
+group g e =
+    let a = and-true (leb 16 (length g)) _ e in
+    let b = and-true (leb (length g) 65500) _ (a .1) in
+    let c = and-true (eqb (num (lent g) 0) 20) _ (b .1) in
+    let d = and-true (eqb (num (lent g) 8) 8005) _ (c .1) in
+    let w = group-walk g (walk (lent g) 0 1 1) refl (d .1) in
+    record {
+      rows = w .0;
+      tree = w .1;
+      kind = eqb-true _ _ (c .0);
+      parameter = eqb-true _ _ (d .0);
+      least = leb-true _ _ (a .0);
+      most = leb-true _ _ (b .0);
+    }
+
+-- values are determined by the one that rose
+risen-is : (v v′ : List ℕ) (c : ℕ) → length v ≡ 8 → length v′ ≡ 8 → c < 8 → getD v′ c 0 ≡ getD v c 0 + 1
+    → ((j : ℕ) → j < 8 → (j ≡ c → ⊥) → getD v j 0 ≡ getD v′ j 0) → v′ ≡ risen v c
+unfolding risen
+risen-is v v′ c a b h r o =
+    ext-getD 0 v′ (set v c (getD v c 0 + 1)) (b ∙ sym a ∙ sym (length-set v c (getD v c 0 + 1))) (λ i k. go i (omega arith) (eqb i c) refl)
+  where
+    go : (i : ℕ) → i < 8 → (t : Bool) → eqb i c ≡ t → getD v′ i 0 ≡ getD (set v c (getD v c 0 + 1)) i 0
+    go i k true e =
+        let q : i ≡ c = eqb-true i c e in
+        rw q (r ∙ sym (getD-set-same v c (getD v c 0 + 1) 0 (omega arith)))
+    go i k false e =
+        let q : ¬ (i ≡ c) = eqb-false i c e in
+        sym (o i k q) ∙ sym (getD-set-other v c i (getD v c 0 + 1) 0 q)
+
+-- a sound trace, one of whose counters is to rise
+module _ (tm : Terms) (buf : List ℕ) (len : ℕ) (t : Trace) (s : Sound tm buf len t) (c : ℕ) (lo : 1 ≤ c) (hi : c ≤ 3)
+    (below : value (t .values) c < 2147483647) where
+  abbrev P : Part
+  P = partOf buf len
+
+  -- the counter's structure, and the buffer with its Value one higher
+  abbrev q : ℕ
+  q = value (t .places) c
+
+  abbrev b₁ : List ℕ
+  b₁ = bump P buf (valuePlace q)
+
+  at-q : Lies (tm .sheet) P t (s .sheet-ok) (s .message) c
+  at-q = lies (tm .sheet) P t (s .sheet-ok) (s .message) c (omega arith)
+
+  fits : valuePlace q + 4 ≤ length buf
+  fits = omega (arith, at-q .inside, s .lies .in-buffer)
+
+  pub length-raised : length b₁ ≡ length buf
+  length-raised = length-store P buf (valuePlace q) (num P (valuePlace q) + 1) fits
+
+  raised-same : (i : ℕ) → ((q + 12 ≤ i) × (i < q + 16) → ⊥) → getD b₁ i 0 ≡ getD buf i 0
+  raised-same i h = store-same P buf (valuePlace q) (num P (valuePlace q) + 1) fits i (λ x. h (x .0, omega (arith, x .1)))
+
+  value-at : num P (valuePlace q) ≡ value (t .values) c
+  unfolding valueAt
+  value-at =
+      sym (value-of (tm .sheet) P t (s .sheet-ok) (s .message) P c (omega arith)) ∙ ap (λ (l : List ℕ). value l c) (s .message .values)
+
+  -- in whatever part has these four bytes
+  raised-value : (m : Part) → ((i : ℕ) → q + 12 ≤ i → i < q + 12 + 4 → getD (m .bytes) i 0 ≡ getD b₁ i 0) → num m (valuePlace q) ≡ value (t .values) c + 1
+  raised-value m h =
+      let e = value-at in
+      num-store P buf (valuePlace q) (num P (valuePlace q) + 1) fits m (omega arith) h ∙ ap (λ (y : ℕ). y + 1) e
+
+  -- of any part with the counter's new Value, changed in no other attribute, the values are those risen
+  module _ (m : Part) (ch : Changed P m q) (e : num m (valuePlace q) ≡ value (t .values) c + 1) (most : m .end ≤ 65536) where
+    pub still-small : small (valueAt m q) ≡ true
+    unfolding valueAt
+    still-small = lt-ltb (num m (valuePlace q)) 2147483648 (omega arith)
+
+    pub values-risen : valuesAt m (t .places) ≡ risen (t .values) c
+    unfolding valueAt valuesAt
+    values-risen =
+        risen-is (t .values) (valuesAt m (t .places)) c (length-values (tm .sheet) P t (s .sheet-ok) (s .message)) eight (omega arith)
+        (value-of (tm .sheet) P t (s .sheet-ok) (s .message) m c (omega arith) ∙ e)
+        (values-kept (tm .sheet) P t (s .sheet-ok) (s .message) m c lo hi ch still-small most)
+      where
+        eight : length (valuesAt m (t .places)) ≡ 8
+        eight = length-map (t .places) (valueAt m) ∙ length-places (tm .sheet) P t (s .sheet-ok) (s .message)
+
+  -- the counter's Value alone
+  pub raised-sound : Sound tm b₁ len (record { rows = t .rows; places = t .places; values = risen (t .values) c })
+  unfolding valueAt
+  raised-sound =
+      let a = at-q .inside in
+      let z = at-q .behind in
+      let n₀ = s .lies .in-buffer in
+      let n₁ = s .lies .in-least in
+      let n₂ = s .lies .in-most in
+      let nr : length b₁ ≡ length buf = length-raised in
+      let m : Part = partOf b₁ len in
+      let ch : Changed P m q =
+      record {
+        same-start = refl;
+        grows = omega arith;
+        bytes = λ i z₀ h x y. getD-take len buf i 0 (omega arith) ∙ sym (raised-same i x) ∙ sym (getD-take len b₁ i 0 (omega arith));
+      } in
+      let e : num m (valuePlace q) ≡ value (t .values) c + 1 = raised-value m (λ i x y. getD-take len b₁ i 0 (omega arith)) in
+      let k : parameterCount m ≡ parameterCount P =
+      sym (num-same P m (countPlace P) (λ i x y. getD-take len buf i 0 (omega arith)
+      ∙ sym (raised-same i (λ w. omega (arith, w .0))) ∙ sym (getD-take len b₁ i 0 (omega arith)))) in
+      let sm = sound-raised (tm .sheet) P t (s .sheet-ok) (s .message) m c lo hi ch (still-small m ch e n₂) n₂ refl k in
+      record {
+        sheet-ok = s .sheet-ok;
+        lies = record { in-buffer = omega arith; in-most = n₂; in-least = n₁ };
+        message = subst (λ (v : List ℕ). SoundMessage (tm .sheet) m (record { rows = t .rows; places = t .places; values = v })) (values-risen m ch e n₂) sm;
+      }
+
+  -- with the group behind the old end
+  module _ (g : List ℕ) (sg : Group g) (room : len + length g ≤ length buf) (most : len + length g ≤ 65536) where
+    abbrev b₂ : List ℕ
+    b₂ = bump P b₁ (countPlace P)
+
+    abbrev b₃ : List ℕ
+    b₃ = grown P b₁ g
+
+    abbrev P′ : Part
+    P′ = partOf b₃ (len + length g)
+
+    fits₂ : countPlace P + 4 ≤ length b₁
+    fits₂ = omega (arith, length-raised, s .lies .in-least, s .lies .in-buffer)
+
+    length-b₂ : length b₂ ≡ length buf
+    length-b₂ = length-store P b₁ (countPlace P) (parameterCount P + 1) fits₂ ∙ length-raised
+
+    fits₃ : P .end + length g ≤ length b₂
+    fits₃ = omega (arith, length-b₂)
+
+    pub length-grown : length b₃ ≡ length buf
+    unfolding grown
+    length-grown = length-splice b₂ (P .end) g fits₃ ∙ length-b₂
+
+    -- below the old end only ParameterCount and the counter's Value differ
+    low₃ : (i : ℕ) → i < P .end → getD b₃ i 0 ≡ getD b₂ i 0
+    unfolding grown
+    low₃ i h = splice-before b₂ (P .end) g fits₃ i h
+
+    same₂ : (i : ℕ) → ((countPlace P ≤ i) × (i < P .start + 36) → ⊥) → getD b₂ i 0 ≡ getD b₁ i 0
+    same₂ i h = store-same P b₁ (countPlace P) (parameterCount P + 1) fits₂ i (λ x. h (x .0, omega (arith, x .1)))
+
+    -- from it on stands the group
+    pub grown-group : (i : ℕ) → i < length g → getD b₃ (P .end + i) 0 ≡ getD g i 0
+    unfolding grown
+    grown-group i h = splice-in b₂ (P .end) g fits₃ i h
+
+    in-new : (i : ℕ) → i < len + length g → getD (P′ .bytes) i 0 ≡ getD b₃ i 0
+    in-new i h = getD-take (len + length g) b₃ i 0 h
+
+    grown-match : Match (lent g) 0 P′ (P .end) (length g)
+    grown-match = record {
+      run = λ i h. ap (λ (x : ℕ). getD g x 0) (zero-add i) ∙ sym (grown-group i h) ∙ sym (in-new (P .end + i) (omega arith));
+    }
+
+    grown-num : (k : ℕ) → k + 4 ≤ length g → num P′ (P .end + k) ≡ num (lent g) k
+    grown-num k h = sym (num-match (lent g) P′ 0 (P .end) (length g) grown-match k (P .end + k) k (omega arith) refl h)
+
+    -- which is one Activity group there
+    pub appended-activity : OneActivity P′ (P .end) (map (shift (P .end)) (sg .rows))
+    appended-activity =
+        let l = sg .least in
+        record {
+          walk = walks-as (add-zero (P .end)) refl refl (walks-shift P′ (P .end) (sg .tree) grown-match (omega arith));
+          kind = rw (add-zero (P .end)) at (grown-num 0 (omega arith)) ∙ sg .kind;
+          parameter = grown-num 8 (omega arith) ∙ sg .parameter;
+        }
+
+    pub grown-sound : Sound tm b₃ (len + length g) (record { rows = t .rows ++ map (shift (P .end)) (sg .rows); places = t .places; values = risen (t .values) c })
+    unfolding valueAt
+    grown-sound =
+        let a = at-q .inside in
+        let z = at-q .behind in
+        let n₀ = s .lies .in-buffer in
+        let n₁ = s .lies .in-least in
+        let nb : length b₃ ≡ length buf = length-grown in
+        let ch : Changed P P′ q =
+        record {
+          same-start = refl;
+          grows = omega arith;
+          bytes = λ i z₀ h x y.
+              getD-take len buf i 0 (omega arith) ∙ sym (low₃ i h ∙ same₂ i y ∙ raised-same i x) ∙ sym (in-new i (omega arith));
+        } in
+        let e : num P′ (valuePlace q) ≡ value (t .values) c + 1 =
+        raised-value P′ (λ i x y. in-new i (omega arith) ∙ low₃ i (omega arith) ∙ same₂ i (λ w. omega (arith, w .1))) in
+        let n32 : parameterCount P + 1 < 4294967296 = omega (arith, count-le (tm .sheet) P t (s .sheet-ok) (s .message), s .lies .in-most) in
+        let k : parameterCount P′ ≡ parameterCount P + 1 =
+        num-store P b₁ (countPlace P) (parameterCount P + 1) fits₂ P′ n32 (λ i x y. in-new i (omega arith) ∙ low₃ i (omega arith)) in
+        let sm = sound-appended (tm .sheet) P t (s .sheet-ok) (s .message) P′ c lo hi ch (still-small P′ ch e most) most _ appended-activity k in
+        record {
+          sheet-ok = s .sheet-ok;
+          lies = record { in-buffer = omega arith; in-most = most; in-least = omega arith };
+          message = subst (λ (v : List ℕ). SoundMessage (tm .sheet) P′ (record { rows = t .rows ++ map (shift (P .end)) (sg .rows); places = t .places; values = v }))
+              (values-risen P′ ch e most) sm;
+        }
