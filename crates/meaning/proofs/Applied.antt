@@ -57,6 +57,19 @@ group g e =
       most = leb-true _ _ (b .0);
     }
 
+-- wherever its bytes are a part's last ones it is one Activity group
+pub activity-at : (m : Part) (l : ℕ) (g : List ℕ) (sg : Group g) → Match (lent g) 0 m l (length g) → m .end ≡ l + length g
+    → OneActivity m l (map (shift l) (sg .rows))
+activity-at m l g sg match ends =
+    let least = sg .least in
+    let at : (k : ℕ) → k + 4 ≤ length g → num m (l + k) ≡ num (lent g) k =
+    λ k h. sym (num-match (lent g) m 0 l (length g) match k (l + k) k (omega arith) refl h) in
+    record {
+      walk = walks-as (add-zero l) refl (sym ends) (walks-shift m l (sg .tree) match (omega arith));
+      kind = rw (add-zero l) at (at 0 (omega arith)) ∙ sg .kind;
+      parameter = at 8 (omega arith) ∙ sg .parameter;
+    }
+
 -- values are determined by the one that rose
 risen-is : (v v′ : List ℕ) (c : ℕ) → length v ≡ 8 → length v′ ≡ 8 → c < 8 → getD v′ c 0 ≡ getD v c 0 + 1
     → ((j : ℕ) → j < 8 → (j ≡ c → ⊥) → getD v j 0 ≡ getD v′ j 0) → v′ ≡ risen v c
@@ -197,18 +210,9 @@ module _ (tm : Terms) (buf : List ℕ) (len : ℕ) (t : Trace) (s : Sound tm buf
       run = λ i h. ap (λ (x : ℕ). getD g x 0) (zero-add i) ∙ sym (grown-group i h) ∙ sym (in-new (P .end + i) (omega arith));
     }
 
-    grown-num : (k : ℕ) → k + 4 ≤ length g → num P′ (P .end + k) ≡ num (lent g) k
-    grown-num k h = sym (num-match (lent g) P′ 0 (P .end) (length g) grown-match k (P .end + k) k (omega arith) refl h)
-
     -- which is one Activity group there
     pub appended-activity : OneActivity P′ (P .end) (map (shift (P .end)) (sg .rows))
-    appended-activity =
-        let l = sg .least in
-        record {
-          walk = walks-as (add-zero (P .end)) refl refl (walks-shift P′ (P .end) (sg .tree) grown-match (omega arith));
-          kind = rw (add-zero (P .end)) at (grown-num 0 (omega arith)) ∙ sg .kind;
-          parameter = grown-num 8 (omega arith) ∙ sg .parameter;
-        }
+    appended-activity = activity-at P′ (P .end) g sg grown-match refl
 
     pub grown-sound : Sound tm b₃ (len + length g) (record { rows = t .rows ++ map (shift (P .end)) (sg .rows); places = t .places; values = risen (t .values) c })
     unfolding valueAt

@@ -14,3 +14,9 @@ pub mod Spans
 pub mod Views
 pub mod Twins
 pub mod Demand3
+pub mod Composed
+pub mod ReadsBack
+pub mod Accepted
+pub mod Reports
+pub mod Tiling
+pub mod Cases

@@ -17,11 +17,12 @@ use Rattle.meaning.proofs.Tests.{clash, and-true, and-not}
 use Rattle.meaning.proofs.Changed.{InRange, in-range}
 use Rattle.meaning.proofs.Applied.{Group, group}
 
--- A PLAN raises one of the three counters, and appends only a sound group
+-- A PLAN raises one of the three counters, and appends or reports only a sound group
 pub record PlanOk (p : Plan) (e : Event) : Type 0 where
   pub lo : 1 ≤ p .counter
   pub hi : p .counter ≤ 3
   pub lent : p .appends ≡ true → soundEvent e ≡ true → Group (groupOf e)
+  pub told : p .reports ≡ true → soundEvent e ≡ true → Group (groupOf e)
 
 recorded-lo : (b : Bool) → 1 ≤ recordedIn b
 recorded-lo true = omega arith
@@ -33,11 +34,12 @@ recorded-hi false = omega arith
 
 pub plan-ok : (v : List ℕ) (e : Event) → PlanOk (planOf v e) e
 unfolding planOf soundEvent groupOf
-plan-ok v discontinuity = record { lo = omega arith; hi = omega arith; lent = λ x. absurd (clash (cc)) }
+plan-ok v discontinuity = record { lo = omega arith; hi = omega arith; lent = λ x. absurd (clash (cc)); told = λ x. absurd (clash (cc)) }
 plan-ok v (activity a s) = record {
   lo = recorded-lo (reported v a s || accumulated v a s);
   hi = recorded-hi (reported v a s || accumulated v a s);
   lent = λ x h. group (a .group) h;
+  told = λ x h. group (a .group) h;
 }
 
 counter-small : (v : List ℕ) (c : ℕ) → inRange v ≡ true → 1 ≤ c → c ≤ 3 → value v c < 2147483648

@@ -20,7 +20,7 @@ tiles-size s p [] q h = omega arith
 tiles-size s p (r ∷ rs) q h = omega (arith, tiles-size s (p + r .size) rs q (h .1))
 
 -- the parts of the message that are its Activity groups
-pub spansOf : List Row → List Span
+unfoldable pub spansOf : List Row → List Span
 spansOf rows = map spanOf (activities rows)
 
 map-snoc : (ts : List Top) (u : Top) → map spanOf (ts ++ (u ∷ [])) ≡ map spanOf ts ++ (spanOf u ∷ [])

@@ -10,7 +10,7 @@ use native.Mathlib.Numerals.{towards-suc}
 use lib.ListN.{length, set, getD, take, drop, length-append, length-drop, List·getD-append}
 use lib.Dec.{leb, ltb}
 use borrow.Author.Tests.{ltb-true, ltb-false, leb-true, leb-false}
-use lib.Seq.{length-take-le, getD-append-add, getD-take, getD-drop, sets-eq, paste, take-length}
+use lib.Seq.{length-take-le, getD-append-add, getD-take, getD-drop, sets-eq, paste, take-length, take-at, drop-at, drop-drop, ext-getD}
 use Rattle.meaning.specs.Bytes.{Part, number, num, bytes4, splice, store}
 use Rattle.meaning.proofs.Numbers.{number-bytes4, length-bytes4, Run, number-match, number-same}
 
@@ -33,6 +33,18 @@ module _ (d : List ℕ) (at : ℕ) (s : List ℕ) (fits : at + length s ≤ leng
 
   pub length-splice : length (splice d at s) ≡ length d
   length-splice = rw splice-right (simp (length-append, length-drop, front) (omega arith))
+
+  front-length : length (take at d ++ s) ≡ at + length s
+  front-length = length-append (take at d) s ∙ omega (arith, front)
+
+  -- up to the end of what is written, and from there on
+  pub take-splice : take (at + length s) (splice d at s) ≡ take at d ++ s
+  unfolding splice
+  take-splice = take-at (take at d ++ s) (drop (at + length s) d) (at + length s) front-length
+
+  pub drop-splice : drop (at + length s) (splice d at s) ≡ drop (at + length s) d
+  unfolding splice
+  drop-splice = drop-at (take at d ++ s) (drop (at + length s) d) (at + length s) front-length
 
   pub splice-before : (i : ℕ) → i < at → getD (splice d at s) i 0 ≡ getD d i 0
   splice-before i h = rw splice-right (List·getD-append (take at d) (s ++ drop (at + length s) d) 0 i (omega (arith, front)) ∙ getD-take at d i 0 h)
@@ -112,3 +124,29 @@ pub store-both : (s : Part) (b b′ : List ℕ) (at v : ℕ) → at + 4 ≤ leng
     → getD (store s b at v) i 0 ≡ getD (store s b′ at v) i 0
 unfolding store
 store-both s b b′ at v f f′ i h = splice-both b b′ at (bytes4 v) (four-fit s b at v f) (four-fit s b′ at v f′) i (λ x. h)
+
+-- a list cut behind what is written, and the rest behind it
+pub take-splice-in : (n : ℕ) (d : List ℕ) (at : ℕ) (s : List ℕ) → at + length s ≤ n → n ≤ length d → take n (splice d at s) ≡ splice (take n d) at s
+take-splice-in n d at s h k =
+    let l : length (take n d) ≡ n = length-take-le n d k in
+    let f : at + length s ≤ length d = omega arith in
+    let f′ : at + length s ≤ length (take n d) = omega arith in
+    let m : length (take n (splice d at s)) ≡ n = length-take-le n (splice d at s) (omega (arith, length-splice d at s f)) in
+    ext-getD 0 (take n (splice d at s)) (splice (take n d) at s) (m ∙ sym l ∙ sym (length-splice (take n d) at s f′)) (λ i j.
+    getD-take n (splice d at s) i 0 (omega arith) ∙ splice-both d (take n d) at s f f′ i (λ z. sym (getD-take n d i 0 (omega arith))))
+
+pub drop-splice-behind : (n : ℕ) (d : List ℕ) (at : ℕ) (s : List ℕ) → at + length s ≤ n → n ≤ length d → drop n (splice d at s) ≡ drop n d
+drop-splice-behind n d at s h k =
+    let x : ℕ = n - (at + length s) in
+    let e : n ≡ at + length s + x = omega arith in
+    let f : at + length s ≤ length d = omega arith in
+    ap (λ (y : ℕ). drop y (splice d at s)) e ∙ sym (drop-drop x (at + length s) (splice d at s)) ∙ ap (drop x) (drop-splice d at s f)
+    ∙ drop-drop x (at + length s) d ∙ ap (λ (y : ℕ). drop y d) (sym e)
+
+pub take-store : (n : ℕ) (s : Part) (b : List ℕ) (at v : ℕ) → at + 4 ≤ n → n ≤ length b → take n (store s b at v) ≡ store s (take n b) at v
+unfolding store
+take-store n s b at v h k = take-splice-in n b at (bytes4 v) (omega (arith, length-bytes4 v)) k
+
+pub drop-store : (n : ℕ) (s : Part) (b : List ℕ) (at v : ℕ) → at + 4 ≤ n → n ≤ length b → drop n (store s b at v) ≡ drop n b
+unfolding store
+drop-store n s b at v h k = drop-splice-behind n b at (bytes4 v) (omega (arith, length-bytes4 v)) k

@@ -24,7 +24,7 @@ use Rattle.meaning.proofs.Spans.{spansOf, spans-more}
 use Rattle.meaning.proofs.Plans.{PlanOk, plan-ok, Allowed, allowed}
 
 -- the part that an appended group is
-pub spanIf : Bool → ℕ → ℕ → List Span
+unfoldable pub spanIf : Bool → ℕ → ℕ → List Span
 spanIf true p n = record { place = p; length = n } ∷ []
 spanIf false p n = []
 
