@@ -11,7 +11,7 @@ use lib.Seq.{length-take-le, getD-take, getD-drop, getD-append-add, ext-getD, ge
 use lib.Dec.{leb, ltb, eqb}
 use borrow.Author.Tests.{ltb-true, lt-ltb, leb-true, leb-false, le-leb, eqb-true, eqb-false}
 use Rattle.meaning.specs.Bytes.{Part, num, splice, store, bump}
-use Rattle.meaning.specs.Names.{«MQCFT_GROUP», «MQGACF_ACTIVITY»}
+use Rattle.meaning.specs.Names.{«MQCFT_GROUP», «MQGACF_ACTIVITY», mostBytes, mostCount, twoTo31}
 use Rattle.meaning.specs.Answer.{Result, accepted, refused}
 use Rattle.meaning.specs.Structure.{Row, small}
 use Rattle.meaning.specs.Walk.{Walked, walked, walk}
@@ -87,7 +87,7 @@ risen-is v v′ c a b h r o =
 
 -- a sound trace, one of whose counters is to rise
 module _ (tm : Terms) (buf : List ℕ) (len : ℕ) (t : Trace) (s : Sound tm buf len t) (c : ℕ) (lo : 1 ≤ c) (hi : c ≤ 3)
-    (below : value (t .values) c < 2147483647) where
+    (below : value (t .values) c < mostCount) where
   abbrev P : Part
   P = partOf buf len
 
@@ -122,10 +122,10 @@ module _ (tm : Terms) (buf : List ℕ) (len : ℕ) (t : Trace) (s : Sound tm buf
       num-store P buf (valuePlace q) (num P (valuePlace q) + 1) fits m (omega arith) h ∙ ap (λ (y : ℕ). y + 1) e
 
   -- of any part with the counter's new Value, changed in no other attribute, the values are those risen
-  module _ (m : Part) (ch : Changed P m q) (e : num m (valuePlace q) ≡ value (t .values) c + 1) (most : m .end ≤ 65536) where
+  module _ (m : Part) (ch : Changed P m q) (e : num m (valuePlace q) ≡ value (t .values) c + 1) (most : m .end ≤ mostBytes) where
     pub still-small : small (valueAt m q) ≡ true
     unfolding valueAt
-    still-small = lt-ltb (num m (valuePlace q)) 2147483648 (omega arith)
+    still-small = lt-ltb (num m (valuePlace q)) twoTo31 (omega arith)
 
     pub values-risen : valuesAt m (t .places) ≡ risen (t .values) c
     unfolding valueAt valuesAt
@@ -166,7 +166,7 @@ module _ (tm : Terms) (buf : List ℕ) (len : ℕ) (t : Trace) (s : Sound tm buf
       }
 
   -- with the group behind the old end
-  module _ (g : List ℕ) (sg : Group g) (room : len + length g ≤ length buf) (most : len + length g ≤ 65536) where
+  module _ (g : List ℕ) (sg : Group g) (room : len + length g ≤ length buf) (most : len + length g ≤ mostBytes) where
     abbrev b₂ : List ℕ
     b₂ = bump P b₁ (countPlace P)
 

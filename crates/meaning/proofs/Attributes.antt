@@ -8,10 +8,10 @@ use native.Mathlib.Omega.{arith}
 use lib.ListN.{length, getD}
 use lib.Dec.{leb, ltb, eqb}
 use borrow.Author.Tests.{ltb-true, leb-true, eqb-true, eqb-false, eq-eqb, ne-eqb, not-true}
-use Rattle.meaning.specs.Names.{«MQCFT_INTEGER», «MQCFT_GROUP»}
+use Rattle.meaning.specs.Names.{«MQCFT_INTEGER», «MQCFT_GROUP», twoTo31}
 use Rattle.meaning.specs.Answer.{consIf}
 use Rattle.meaning.specs.Structure.{Row, small}
-use Rattle.meaning.specs.Trace.{absent, different, Top, isTop, untilTop, tops, isGroup, groupsIn, groups, ofDepth2, directMembers, named, oneInteger, eachOnce, placeOfFirst, placesOf}
+use Rattle.meaning.specs.Trace.{absent, different, Top, isTop, isDirect, untilTop, tops, isGroup, groupsIn, groups, directIn, directMembers, named, oneInteger, eachOnce, placeOfFirst, placesOf}
 use Rattle.meaning.proofs.Tests.{clash, and-true, and-false}
 use Rattle.meaning.proofs.Walks.{In, here, there, in-nil, in-cases}
 
@@ -31,10 +31,10 @@ in-until {r} (x ∷ xs) h = go (λ k. in-until xs k) (isTop x) h
     go ih false (here e) = here e
     go ih false (there k) = there (ih k)
 
-in-depth2 : {r : Row} (rows : List Row) → In r (ofDepth2 rows) → In r rows
-unfolding ofDepth2
-in-depth2 [] h = h
-in-depth2 (x ∷ xs) h = in-consIf (eqb (x .depth) 2) x (ofDepth2 xs) (λ e f. here f) (λ k. there (in-depth2 xs k)) h
+in-direct-rows : {r : Row} (rows : List Row) → In r (directIn rows) → In r rows
+unfolding directIn
+in-direct-rows [] h = h
+in-direct-rows (x ∷ xs) h = in-consIf (isDirect x) x (directIn xs) (λ e f. here f) (λ k. there (in-direct-rows xs k)) h
 
 -- the top-level structure that starts a list of rows
 abbrev topOf : Row → List Row → Top
@@ -48,8 +48,8 @@ in-direct {r} id (x ∷ xs) h = by-top (λ k. in-direct id xs k) (isTop x) h
     by-group : (In r (directMembers (groupsIn id (tops xs))) → In r xs) → (b : Bool)
         → In r (directMembers (consIf b (topOf x xs) (groupsIn id (tops xs)))) → In r (x ∷ xs)
     by-group ih true k =
-        in-cases (ofDepth2 (untilTop xs)) (directMembers (groupsIn id (tops xs)))
-        (λ i. there (in-until xs (in-depth2 (untilTop xs) i))) (λ i. there (ih i)) k
+        in-cases (directIn (untilTop xs)) (directMembers (groupsIn id (tops xs)))
+        (λ i. there (in-until xs (in-direct-rows (untilTop xs) i))) (λ i. there (ih i)) k
     by-group ih false k = there (ih k)
 
     by-top : (In r (directMembers (groupsIn id (tops xs))) → In r xs) → (b : Bool)
@@ -126,9 +126,9 @@ different-at (x ∷ xs) e (suc j) zero h h′ q = absurd (absent-at x xs (differ
 different-at (x ∷ xs) e (suc j) (suc k) h h′ q =
     ap suc (different-at xs (different-parts x xs e .rest) j k (le-of-suc-le-suc h) (le-of-suc-le-suc h′) q)
 
-pub small-at : (is : List ℕ) → different is ≡ true → (j : ℕ) → j < length is → getD is j 0 < 2147483648
+pub small-at : (is : List ℕ) → different is ≡ true → (j : ℕ) → j < length is → getD is j 0 < twoTo31
 small-at [] e j h = absurd (not-suc-le-zero h)
-small-at (i ∷ is) e zero h = ltb-true i 2147483648 (different-parts i is e .low)
+small-at (i ∷ is) e zero h = ltb-true i twoTo31 (different-parts i is e .low)
 small-at (i ∷ is) e (suc j) h = small-at is (different-parts i is e .rest) j (le-of-suc-le-suc h)
 
 -- ONE MORE TOP-LEVEL STRUCTURE behind the others: its row, and deeper rows inside it

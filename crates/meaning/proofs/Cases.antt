@@ -11,9 +11,10 @@ use Rattle.meaning.specs.Structure.{lengthRule, judge, structureAt}
 use Rattle.meaning.specs.Walk.{walkFuel, walk}
 use Rattle.meaning.specs.Message.{headerOk, lengthOk, closed, rowsOf, scan, check}
 use Rattle.meaning.specs.Listing.{ascii, digits, decimal, column, headerLine, rowLine, rowLines, endLine, listingText, refusalLine, listing}
-use Rattle.meaning.specs.Trace.{Terms, absent, different, sheetOk, traceFields, traceHeader, untilTop, tops, groupsIn, groups, ofDepth2, directMembers, named, oneInteger, eachOnce, placeOfFirst, placesOf, valueAt, valuesAt, detailOk, accumulateOk, anyBit, oneBit, forwardOk, deliverOk, inRange, readMembers, readRows, readTrace, read}
+use Rattle.meaning.specs.Trace.{Terms, absent, different, sheetOk, traceFields, traceHeader, untilTop, tops, groupsIn, groups, directIn, directMembers, named, oneInteger, eachOnce, placeOfFirst, placesOf, valueAt, valuesAt, detailOk, accumulateOk, anyBit, oneBit, forwardOk, deliverOk, inRange, readMembers, readRows, readTrace, read}
 use Rattle.meaning.specs.Compose.{headerFields, traceHeaderFields, reportHeaderFields, groupFields, integers, composedFields, composed, valuesOk, composeAnswer, compose}
-use Rattle.meaning.specs.Event.{Level, low, Activity, Settings, Event, discontinuity, activity, groupOk, groupOf, soundEvent, unrecordedForLevel, reported, accumulated, planOf, Done, Answer, done, denied, sum, overLimit, replyOwed, decide, State, grown, reportOf, applied, onTrace, event}
+use Rattle.meaning.specs.Event.{Level, low, Activity, Settings, Event, discontinuity, activity, groupOk, groupOf, soundEvent, unrecordedForLevel, reported, accumulated, planOf, Done, Answer, done, denied, sum, overLimit, replyOwed, decide, State, Outcome, grown, reportOf, applied, onTrace, event}
+use Rattle.meaning.specs.Activity.{Span, sizeOf, activityGroup, isPad, trimmed, strings, Name, inMessage, substitute, nameOf}
 use Rattle.meaning.specs.Decision.{Decision, forward, putLocally, withhold, unrecognised, deliverYes, ifSupported, forwardBy, arriveBy, forwarding, arrival}
 use Rattle.meaning.proofs.ReadsBack.{madeUp}
 
@@ -23,6 +24,8 @@ pub data Told : Type 0 where
   prints : List ℕ → Told
   reads : Result (List ℕ) → Told
   answers : Answer → Told
+  leaves : Outcome → Told
+  names : Name → Told
   decides : Result Decision → Told
 
 -- what the definitions say, and what document 01 says
@@ -30,15 +33,15 @@ pub record Case : Type 0 where
   pub said : Told
   pub expected : Told
 
-abbrev case : Told → Told → Case
+abbrev pub case : Told → Told → Case
 case x y = record { said = x; expected = y }
 
 -- a whole message, checked
-abbrev checked : List ℕ → Told
+abbrev pub checked : List ℕ → Told
 checked m = checks (check m (length m))
 
 -- a header of Type 7 with so many structures
-abbrev header : ℕ → List ℕ
+abbrev pub header : ℕ → List ℕ
 header n = words (7 ∷ 36 ∷ 3 ∷ 99 ∷ 1 ∷ 1 ∷ 0 ∷ 0 ∷ n ∷ [])
 
 -- a message of one string with the StrucLength n and one byte of data, which is the first of `rest` bytes
@@ -50,39 +53,39 @@ abbrev stringList : List ℕ
 stringList = header 1 ++ (words (6 ∷ 36 ∷ 77 ∷ 0 ∷ 1 ∷ 8 ∷ []) ++ replicate 12 65)
 
 -- groups, so many one inside the other
-abbrev nested : ℕ → List ℕ
+abbrev pub nested : ℕ → List ℕ
 nested zero = []
 nested (suc zero) = words (20 ∷ 16 ∷ 77 ∷ 0 ∷ [])
 nested (suc (suc n)) = words (20 ∷ 16 ∷ 77 ∷ 1 ∷ []) ++ nested (suc n)
 
 -- a composed trace in a buffer of 260 bytes: its counters, its limit, Forward and Deliver
-abbrev traceWith : ℕ → ℕ → ℕ → ℕ → ℕ → ℕ → List ℕ
+abbrev pub traceWith : ℕ → ℕ → ℕ → ℕ → ℕ → ℕ → List ℕ
 traceWith recorded unrecorded discontinuities limit forwardOption deliverOption =
     compose madeUp («MQROUTE_DETAIL_LOW» ∷ recorded ∷ unrecorded ∷ discontinuities ∷ limit ∷ «MQROUTE_ACCUMULATE_IN_MSG» ∷ forwardOption ∷ deliverOption ∷ []) (replicate 260 0) .buffer
 
-abbrev counting : ℕ → ℕ → ℕ → ℕ → State
+abbrev pub counting : ℕ → ℕ → ℕ → ℕ → State
 counting recorded unrecorded discontinuities limit =
     record { buf = traceWith recorded unrecorded discontinuities limit 0x100 0x1000; len = 180; report = replicate 60 0 }
 
-abbrev on : State → Event → Told
+abbrev pub on : State → Event → Told
 on st e = answers (event madeUp st e .answer)
 
 -- an activity of level low with a group of one integer: recorded with trace-route messaging on, unrecorded with it off
-abbrev lentGroup : List ℕ
+abbrev pub lentGroup : List ℕ
 lentGroup = words (20 ∷ 16 ∷ 8005 ∷ 1 ∷ 3 ∷ 16 ∷ 1202 ∷ 7 ∷ [])
 
-abbrev activityWith : Bool → Event
+abbrev pub activityWith : Bool → Event
 activityWith messaging =
     activity (record { level = low; group = lentGroup; reportsAsked = false }) (record { activityRecording = true; traceRouteMessaging = messaging })
 
-abbrev counted : ℕ → Bool → ℕ → Told
+abbrev pub counted : ℕ → Bool → ℕ → Told
 counted counter appended n = answers (done (record { counter = counter; appended = appended; reportLength = 0; messageLength = n }))
 
-abbrev rejected : ℕ → Told
+abbrev pub rejected : ℕ → Told
 rejected n = answers (denied n 0 false)
 
 -- a forwarding decision by Forward and Deliver
-abbrev forwarded : ℕ → ℕ → Bool → Told
+abbrev pub forwarded : ℕ → ℕ → Bool → Told
 forwarded forwardOption deliverOption supporting = decides (forwarding madeUp (traceWith 0 0 0 0 forwardOption deliverOption) 180 supporting)
 
 pub cases : List Case
@@ -114,9 +117,14 @@ cases =
     ∷ case (forwarded 0x10200 0x1000 true) (decides (refused 15 0))
     ∷ []
 
+-- every definition that a case computes through
+unfoldable pub definitions : ℕ
+unfolding number word bytes4 words splice store lengthRule judge structureAt walkFuel walk headerOk lengthOk closed rowsOf scan check digits decimal column headerLine rowLine rowLines endLine listingText refusalLine listing absent different sheetOk traceFields traceHeader untilTop tops groupsIn groups directIn directMembers named oneInteger eachOnce placeOfFirst placesOf valueAt valuesAt detailOk accumulateOk anyBit oneBit forwardOk deliverOk inRange readMembers readRows readTrace read headerFields traceHeaderFields reportHeaderFields groupFields integers composedFields composed valuesOk composeAnswer compose groupOk groupOf soundEvent unrecordedForLevel reported accumulated planOf sum overLimit replyOwed decide grown reportOf applied onTrace event unrecognised deliverYes ifSupported forwardBy arriveBy forwarding arrival sizeOf activityGroup isPad trimmed strings nameOf
+definitions = 0
+
 -- THE P CASES
 pub p-cases : map (λ (c : Case). c .said) cases ≡ map (λ (c : Case). c .expected) cases
-unfolding cases number word bytes4 words splice store lengthRule judge structureAt walkFuel walk headerOk lengthOk closed rowsOf scan check digits decimal column headerLine rowLine rowLines endLine listingText refusalLine listing absent different sheetOk traceFields traceHeader untilTop tops groupsIn groups ofDepth2 directMembers named oneInteger eachOnce placeOfFirst placesOf valueAt valuesAt detailOk accumulateOk anyBit oneBit forwardOk deliverOk inRange readMembers readRows readTrace read headerFields traceHeaderFields reportHeaderFields groupFields integers composedFields composed valuesOk composeAnswer compose groupOk groupOf soundEvent unrecordedForLevel reported accumulated planOf sum overLimit replyOwed decide grown reportOf applied onTrace event unrecognised deliverYes ifSupported forwardBy arriveBy forwarding arrival
+unfolding definitions cases
 p-cases = refl
 
 -- THE EVENT OF DOCUMENT 004: a command event of 300 bytes
@@ -142,5 +150,5 @@ commandListing =
     ++ (ascii "2 276 5 1116 24\n" ++ ascii "end 10\n"))))))))))
 
 pub command-event : (length commandEvent ≡ 300) × (check commandEvent 300 ≡ accepted 10) × (listing commandEvent 300 ≡ commandListing)
-unfolding commandEvent commandListing number word bytes4 words lengthRule judge structureAt walkFuel walk headerOk lengthOk closed rowsOf scan check digits decimal column headerLine rowLine rowLines endLine listingText listing
+unfolding definitions commandEvent commandListing
 command-event = (refl, refl, refl)

@@ -10,7 +10,7 @@ use lib.ListN.{length, getD, take, length-map}
 use lib.Dec.{leb, ltb, eqb}
 use borrow.Author.Tests.{ltb-true, lt-ltb, leb-true, le-leb, eqb-true, eqb-false, eq-eqb, ne-eqb}
 use Rattle.meaning.specs.Bytes.{Part, num}
-use Rattle.meaning.specs.Names.{«MQCFT_GROUP», «MQGACF_TRACE_ROUTE», «MQGACF_ACTIVITY»}
+use Rattle.meaning.specs.Names.{«MQCFH_STRUC_LENGTH», «MQCFH_VERSION_3», «MQCFT_GROUP», «MQGACF_TRACE_ROUTE», «MQGACF_ACTIVITY», mostBytes, twoTo31}
 use Rattle.meaning.specs.Structure.{Row, small}
 use Rattle.meaning.specs.Message.{field, parameterCount, countPlace, firstPlace, headerOk}
 use Rattle.meaning.specs.Trace.{Trace, Top, isTop, isGroup, traceRoutes, activities, directMembers, named, placeOfFirst, placesOf, eachOnce, traceFields, traceHeader, value, valuePlace, valueAt, valuesAt, detailOk, accumulateOk, forwardOk, deliverOk, inRange, different, sheetOk}
@@ -118,9 +118,9 @@ module _ (sheet : List ℕ) (m : Part) (t : Trace) (ok : sheetOk sheet ≡ true)
     pub header-kept : small (parameterCount m′) ≡ true → headerOk m′ ≡ true
     unfolding headerOk
     header-kept h =
-        let f = and-true (eqb (field m 4) 36) (leb 1 (field m 8) && (leb (field m 8) 3 && small (field m 32))) (s .structures .header) in
-        let g = and-true (leb 1 (field m 8)) (leb (field m 8) 3 && small (field m 32)) (f .1) in
-        let k = and-true (leb (field m 8) 3) (small (field m 32)) (g .1) in
+        let f = and-true (eqb (field m 4) «MQCFH_STRUC_LENGTH») (leb 1 (field m 8) && (leb (field m 8) «MQCFH_VERSION_3» && small (field m 32))) (s .structures .header) in
+        let g = and-true (leb 1 (field m 8)) (leb (field m 8) «MQCFH_VERSION_3» && small (field m 32)) (f .1) in
+        let k = and-true (leb (field m 8) «MQCFH_VERSION_3») (small (field m 32)) (g .1) in
         rw (← field-kept 4 (omega arith), ← field-kept 8 (omega arith), f .0, g .0, k .0, h) refl
 
     fields-kept : traceFields m ≡ traceFields m′
@@ -247,7 +247,7 @@ module _ (sheet : List ℕ) (m : Part) (t : Trace) (ok : sheetOk sheet ≡ true)
   count-ge = leb-true 1 (parameterCount m) ((and-true (traceFields m) (leb 1 (parameterCount m)) (s .trace-header)) .1)
 
   module _ (m′ : Part) (c : ℕ) (lo : 1 ≤ c) (hi : c ≤ 3) (ch : Changed m m′ (value (t .places) c)) (risen : small (valueAt m′ (value (t .places) c)) ≡ true)
-      (most : m′ .end ≤ 65536) where
+      (most : m′ .end ≤ mostBytes) where
     hc : c < 8
     hc = omega arith
 
@@ -265,7 +265,7 @@ module _ (sheet : List ℕ) (m : Part) (t : Trace) (ok : sheetOk sheet ≡ true)
         let l = count-le in
         record {
           structures = record {
-            header = header-kept sheet m t ok s m′ c hc ch (lt-ltb (parameterCount m′) 2147483648 (omega arith));
+            header = header-kept sheet m t ok s m′ c hc ch (lt-ltb (parameterCount m′) twoTo31 (omega arith));
             tree = walks-as refl (sym n) (sym e) (tree-kept sheet m t ok s m′ c hc ch);
           };
           trace-header = trace-header-kept sheet m t ok s m′ c hc ch (omega (arith, count-ge));
@@ -286,7 +286,7 @@ module _ (sheet : List ℕ) (m : Part) (t : Trace) (ok : sheetOk sheet ≡ true)
         let same = traces-same m′ (m .end) extra a (t .rows) in
         record {
           structures = record {
-            header = header-kept sheet m t ok s m′ c hc ch (lt-ltb (parameterCount m′) 2147483648 (omega arith));
+            header = header-kept sheet m t ok s m′ c hc ch (lt-ltb (parameterCount m′) twoTo31 (omega arith));
             tree = rw n w;
           };
           trace-header = trace-header-kept sheet m t ok s m′ c hc ch (omega arith);

@@ -15,7 +15,7 @@ use Rattle.meaning.specs.Answer.{Result, accepted, refused, andThen, unl
 use Rattle.meaning.specs.Structure.{Row, lengthRule, judge, structureAt}
 use Rattle.meaning.specs.Message.{field, parameterCount, firstPlace, partOf, headerOk, scan, check, countOf, countsFrom, tally}
 use Rattle.meaning.specs.Listing.{ascii, digits, decimal, column, headerLine, rowLine, rowLines, endLine, listingText, listing}
-use Rattle.meaning.specs.Trace.{Terms, Trace, absent, different, sheetOk, traceFields, traceHeader, untilTop, tops, groupsIn, groups, traceRoutes, ofDepth2, directMembers, named, oneInteger, eachOnce, placeOfFirst, placesOf, value, valuePlace, valueAt, valuesAt, inRange, readTrace, read}
+use Rattle.meaning.specs.Trace.{Terms, Trace, absent, different, sheetOk, traceFields, traceHeader, untilTop, tops, groupsIn, groups, traceRoutes, directIn, directMembers, named, oneInteger, eachOnce, placeOfFirst, placesOf, value, valuePlace, valueAt, valuesAt, inRange, readTrace, read}
 use Rattle.meaning.specs.Compose.{headerFields, traceHeaderFields, groupFields, integers, composedFields, composed, valuesOk, composeAnswer, composedBuffer, Composed, compose}
 use Rattle.meaning.proofs.Tests.{clash, and-true, true-and}
 use Rattle.meaning.proofs.Walks.{Walks, none, more, walks-as}
@@ -96,8 +96,8 @@ unfolding tops integerRows
 tops-integers p [] = refl
 tops-integers p (i ∷ is) = tops-integers (p + 16) is
 
-direct-integers : (p : ℕ) (is : List ℕ) → ofDepth2 (integerRows p is) ≡ integerRows p is
-unfolding ofDepth2 integerRows
+direct-integers : (p : ℕ) (is : List ℕ) → directIn (integerRows p is) ≡ integerRows p is
+unfolding directIn integerRows
 direct-integers p [] = refl
 direct-integers p (i ∷ is) = rw (direct-integers (p + 16) is) refl
 
@@ -238,7 +238,7 @@ module _ (sheet v : List ℕ) (ok : sheetOk sheet ≡ true) (n8 : length v ≡ 8
 
     direct : directMembers (traceRoutes (composedRows (m .start) sheet)) ≡ integerRows (m .start + 52) sheet
     unfolding directMembers
-    direct = ap directMembers group-there ∙ append-nil (ofDepth2 (integerRows (m .start + 52) sheet)) ∙ direct-integers (m .start + 52) sheet
+    direct = ap directMembers group-there ∙ append-nil (directIn (integerRows (m .start + 52) sheet)) ∙ direct-integers (m .start + 52) sheet
 
     one-there : (j : ℕ) → j < 8 → named (getD sheet j 0) (integerRows (m .start + 52) sheet) ≡ integerRow (m .start + 52 + 16 * j) (getD sheet j 0) ∷ []
     one-there j h = named-one (m .start + 52) sheet distinct j (omega (arith, sheet8))

@@ -20,3 +20,5 @@ pub mod Accepted
 pub mod Reports
 pub mod Tiling
 pub mod Cases
+pub mod Corners
+pub mod Trimmed

@@ -8,6 +8,7 @@ use native.Mathlib.Omega.{arith}
 use lib.ListN.{length}
 use lib.Dec.{leb, ltb, eqb}
 use borrow.Author.Tests.{ltb-true, leb-true, eqb-false}
+use Rattle.meaning.specs.Names.{mostBytes, mostCount, twoTo31}
 use Rattle.meaning.specs.Answer.{when}
 use Rattle.meaning.specs.Structure.{small}
 use Rattle.meaning.specs.Trace.{value, inRange}
@@ -42,7 +43,7 @@ plan-ok v (activity a s) = record {
   told = λ x h. group (a .group) h;
 }
 
-counter-small : (v : List ℕ) (c : ℕ) → inRange v ≡ true → 1 ≤ c → c ≤ 3 → value v c < 2147483648
+counter-small : (v : List ℕ) (c : ℕ) → inRange v ≡ true → 1 ≤ c → c ≤ 3 → value v c < twoTo31
 counter-small v zero r lo hi = absurd (not-suc-le-zero lo)
 counter-small v (suc zero) r lo hi = ltb-true _ _ (in-range v r .in1)
 counter-small v (suc (suc zero)) r lo hi = ltb-true _ _ (in-range v r .in2)
@@ -52,8 +53,8 @@ counter-small v (suc (suc (suc (suc c)))) r lo hi = absurd (omega arith)
 -- WHAT AN ACCEPTED ANSWER TELLS
 pub record Allowed (v : List ℕ) (p : Plan) (size len room reportRoom : ℕ) : Type 0 where
   pub within-limit : overLimit v ≡ false
-  pub below : value v (p .counter) < 2147483647
-  pub fits : p .appends ≡ true → (len + size ≤ room) × (len + size ≤ 65536)
+  pub below : value v (p .counter) < mostCount
+  pub fits : p .appends ≡ true → (len + size ≤ room) × (len + size ≤ mostBytes)
   pub reportable : p .reports ≡ true → 36 + size ≤ reportRoom
 
 when-done : (b : Bool) (n p : ℕ) (o : Bool) (a : Answer) → isDone (when b (denied n p o) a) ≡ true → (b ≡ false) × (isDone a ≡ true)
@@ -67,15 +68,15 @@ allowed v e size len room reportRoom r h =
     let p : Plan = planOf v e in
     let k = plan-ok v e in
     let a = when-done (overLimit v) 10 0 (replyOwed v) _ h in
-    let b = when-done (eqb (value v (p .counter)) 2147483647) 11 0 false _ (a .1) in
-    let c = when-done (p .appends && not (leb (len + size) room && leb (len + size) 65536)) 12 0 false _ (b .1) in
+    let b = when-done (eqb (value v (p .counter)) mostCount) 11 0 false _ (a .1) in
+    let c = when-done (p .appends && not (leb (len + size) room && leb (len + size) mostBytes)) 12 0 false _ (b .1) in
     let d = when-done (p .reports && not (leb (36 + size) reportRoom)) 13 0 false _ (c .1) in
-    let n : ¬ (value v (p .counter) ≡ 2147483647) = eqb-false _ _ (b .0) in
+    let n : ¬ (value v (p .counter) ≡ mostCount) = eqb-false _ _ (b .0) in
     record {
       within-limit = a .0;
       below = omega (arith, counter-small v (p .counter) r (k .lo) (k .hi));
       fits = λ q.
-          let f = and-true (leb (len + size) room) (leb (len + size) 65536) (and-not _ _ (c .0) q) in
+          let f = and-true (leb (len + size) room) (leb (len + size) mostBytes) (and-not _ _ (c .0) q) in
           (leb-true _ _ (f .0), leb-true _ _ (f .1));
       reportable = λ q. leb-true _ _ (and-not _ _ (d .0) q);
     }
@@ -93,8 +94,8 @@ pub decide-limit : (v : List ℕ) (p : Plan) (size len room reportRoom : ℕ) �
 unfolding decide
 decide-limit v p size len room reportRoom =
     when-limit (overLimit v) (replyOwed v) _
-    (when-not-limit (eqb (value v (p .counter)) 2147483647) 11 0 false _ refl
-    (when-not-limit (p .appends && not (leb (len + size) room && leb (len + size) 65536)) 12 0 false _ refl
+    (when-not-limit (eqb (value v (p .counter)) mostCount) 11 0 false _ refl
+    (when-not-limit (p .appends && not (leb (len + size) room && leb (len + size) mostBytes)) 12 0 false _ refl
     (when-not-limit (p .reports && not (leb (36 + size) reportRoom)) 13 0 false _ refl refl)))
 
 -- over its limit nothing is accepted

@@ -8,6 +8,7 @@ use lib.ListN.{length, getD, take}
 use lib.Dec.{leb, ltb, eqb}
 use borrow.Author.Tests.{ltb-true, leb-true, le-leb, eqb-true, eq-eqb}
 use Rattle.meaning.specs.Bytes.{Part, num}
+use Rattle.meaning.specs.Names.{mostBytes}
 use Rattle.meaning.specs.Answer.{Result, accepted, refused, andThen, unless}
 use Rattle.meaning.specs.Structure.{Row}
 use Rattle.meaning.specs.Walk.{Walked, walked, walk}
@@ -23,7 +24,7 @@ pub record SoundRows (m : Part) (rows : List Row) : Type 0 where
 
 pub record InBuffer (buf : List ℕ) (len : ℕ) : Type 0 where
   pub in-buffer : len ≤ length buf
-  pub in-most : len ≤ 65536
+  pub in-most : len ≤ mostBytes
   pub in-least : 36 ≤ len
 
 pub sound-rows : (m : Part) (rows : List Row) → rowsOf m ≡ accepted rows → SoundRows m rows
@@ -31,7 +32,7 @@ unfolding rowsOf closed
 sound-rows m rows e =
     let f = unless-accepted (headerOk m) 2 0 _ rows e in
     let g = then-accepted (walk m (firstPlace m) 1 (parameterCount m)) (closed (m .end)) rows (f .1) in
-    let h = unless-accepted (eqb (g .0 .next) (m .end)) 5 (g .0 .next) _ rows (g .2) in
+    let h = unless-accepted (eqb (g .0 .next) (m .end)) 5 _ _ rows (g .2) in
     let r : g .0 .rows ≡ rows = cc (h .1) in
     let w = walks m (firstPlace m) 1 (parameterCount m) (g .0 .rows) (g .0 .next) (g .1) in
     record {
@@ -46,13 +47,13 @@ rows-of m rows s = rw (s .header, walk-of (s .tree) (omega arith), eq-eqb (m .en
 pub in-buffer-of : (buf : List ℕ) (len : ℕ) → lengthOk buf len ≡ true → InBuffer buf len
 unfolding lengthOk
 in-buffer-of buf len e =
-    let h = and-true (leb len (length buf)) (leb len 65536 && leb 36 len) e in
-    let k = and-true (leb len 65536) (leb 36 len) (h .1) in
+    let h = and-true (leb len (length buf)) (leb len mostBytes && leb 36 len) e in
+    let k = and-true (leb len mostBytes) (leb 36 len) (h .1) in
     record { in-buffer = leb-true _ _ (h .0); in-most = leb-true _ _ (k .0); in-least = leb-true _ _ (k .1) }
 
 pub length-ok : (buf : List ℕ) (len : ℕ) → InBuffer buf len → lengthOk buf len ≡ true
 unfolding lengthOk
-length-ok buf len b = rw (le-leb len (length buf) (b .in-buffer), le-leb len 65536 (b .in-most), le-leb 36 len (b .in-least)) refl
+length-ok buf len b = rw (le-leb len (length buf) (b .in-buffer), le-leb len mostBytes (b .in-most), le-leb 36 len (b .in-least)) refl
 
 pub sound-scan : (buf : List ℕ) (len : ℕ) (rows : List Row) → scan buf len ≡ accepted rows → InBuffer buf len × SoundRows (partOf buf len) rows
 unfolding scan

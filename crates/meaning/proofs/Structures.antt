@@ -8,9 +8,9 @@ use lib.ListN.{length, getD}
 use lib.Dec.{leb, ltb, eqb}
 use borrow.Author.Tests.{ltb-true, ltb-false, leb-true, leb-false, eqb-true, le-leb, lt-leb, eq-eqb}
 use Rattle.meaning.specs.Bytes.{Part, number, num, word}
-use Rattle.meaning.specs.Names.{«MQCFT_INTEGER», «MQCFT_GROUP»}
+use Rattle.meaning.specs.Names.{«MQCFT_INTEGER», «MQCFT_GROUP», mostDepth}
 use Rattle.meaning.specs.Answer.{Result, accepted, refused}
-use Rattle.meaning.specs.Structure.{Row, small, lengthRule, rowOf, judged, judge, structureAt}
+use Rattle.meaning.specs.Structure.{Row, small, lengthRule, rowOf, judged, aligned, judge, structureAt}
 use Rattle.meaning.proofs.Numbers.{Run, number-match, number-same}
 use Rattle.meaning.proofs.Tests.{clash, and-true, either, second, is-false, leb-iff, cond-match}
 
@@ -60,9 +60,9 @@ rule-type t n a b c =
 pub record Judged (end p d t n k a b c : ℕ) (r : Row) : Type 0 where
   pub fits : p + n ≤ end
   pub least : 16 ≤ n
-  pub aligned : eqb (n % 4) 0 ≡ true
+  pub four : aligned n ≡ true
   pub ruled : lengthRule t n a b c ≡ true
-  pub shallow : eqb t «MQCFT_GROUP» && ltb 8 d ≡ false
+  pub shallow : eqb t «MQCFT_GROUP» && ltb mostDepth d ≡ false
   pub row : rowOf p d t n k a ≡ r
 
 pub judge-accepted : (end p d t n k a b c : ℕ) (r : Row) → judge end p d t n k a b c ≡ accepted r → Judged end p d t n k a b c r
@@ -74,7 +74,7 @@ judge-accepted end p d t n k a b c r e =
     record {
       fits = leb-true _ _ (f .0);
       least = rule-16 t n a b c (g .1);
-      aligned = g .0;
+      four = g .0;
       ruled = g .1;
       shallow = h .1;
       row = h .2;
@@ -90,7 +90,7 @@ pub judge-place : (end end′ p p′ d t n k a b c : ℕ) (r : Row) → p′ + n
 unfolding judge
 judge-place end end′ p p′ d t n k a b c r h e =
     let g = judge-accepted end p d t n k a b c r e in
-    rw (le-leb (p′ + n) end′ h, g .aligned, g .ruled, g .shallow, ← g .row) refl
+    rw (le-leb (p′ + n) end′ h, g .four, g .ruled, g .shallow, ← g .row) refl
 
 -- of an integer only type, length and parameter are looked at
 pub judge-integer : (end p d n k a b c a′ b′ c′ : ℕ) → judge end p d «MQCFT_INTEGER» n k a b c ≡ judge end p d «MQCFT_INTEGER» n k a′ b′ c′
@@ -142,7 +142,7 @@ row-at s p d r e =
       at-parameter = ap (λ (x : Row). x .parameter) (g .row);
       at-least = rw (← size) (g .least);
       at-fits = rw (← size) (g .fits);
-      at-four = rw (← size) (eqb-true (num s (p + 4) % 4) 0 (g .aligned));
+      at-four = rw (← size) (eqb-true (num s (p + 4) % 4) 0 (g .four));
       at-type = rw (← kind) (rule-type _ _ _ _ _ (g .ruled));
     }
 
@@ -165,9 +165,9 @@ structure-match s s′ p p′ d r e m h =
 pub judge-short : (end p d t n k a b c : ℕ) → end < p + 16 → judge end p d t n k a b c ≡ refused 3 p
 unfolding judge
 judge-short end p d t n k a b c h =
-    rw (is-false (leb (p + n) end && (eqb (n % 4) 0 && lengthRule t n a b c)) (λ e.
-    let f = and-true (leb (p + n) end) (eqb (n % 4) 0 && lengthRule t n a b c) e in
-    let g = and-true (eqb (n % 4) 0) (lengthRule t n a b c) (f .1) in
+    rw (is-false (leb (p + n) end && (aligned n && lengthRule t n a b c)) (λ e.
+    let f = and-true (leb (p + n) end) (aligned n && lengthRule t n a b c) e in
+    let g = and-true (aligned n) (lengthRule t n a b c) (f .1) in
     omega (arith, leb-true (p + n) end (f .0), rule-16 t n a b c (g .1)))) refl
 
 pub structure-short : (s : Part) (p d : ℕ) → s .end < p + 16 → structureAt s p d ≡ refused 3 p

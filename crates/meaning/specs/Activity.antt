@@ -9,7 +9,7 @@ use Rattle.meaning.specs.Names.{«MQCFT_STRING»}
 use Rattle.meaning.specs.Answer.{Result, accepted, refused, consIf}
 use Rattle.meaning.specs.Structure.{Row}
 use Rattle.meaning.specs.Message.{partOf}
-use Rattle.meaning.specs.Trace.{Top, activities, ofDepth2, named, Terms, Trace, readTrace}
+use Rattle.meaning.specs.Trace.{Top, activities, directIn, named, Terms, Trace, readTrace}
 
 -- a part of the message: its place and length, and its bytes
 pub record Span : Type 0 where
@@ -80,4 +80,4 @@ firstName buf len (r ∷ rs) = inMessage (trimmedAt buf (stringAt (partOf buf le
 -- the substitute, if message or sheet is refused or there is no such string
 unfoldable pub nameOf : Terms → List ℕ → ℕ → ℕ → ℕ → Name
 nameOf tm buf len n id =
-    firstName buf len (named id (strings (ofDepth2 (nthActivity (readTrace tm buf len) n .inside))))
+    firstName buf len (named id (strings (directIn (nthActivity (readTrace tm buf len) n .inside))))

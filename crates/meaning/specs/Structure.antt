@@ -47,11 +47,15 @@ judged false deep p r = refused badStructure p
 judged true true p r = refused tooDeep p
 judged true false p r = accepted r
 
+-- "StrucLength is also a multiple of 4."
+abbrev pub aligned : ℕ → Bool
+aligned n = eqb (n % 4) 0
+
 -- A structure from its fields: sound if it ends at or before the part's end, its StrucLength is a multiple of 4 and
 -- keeps its type's rule; a group is not deeper than 8.
 unfoldable pub judge : ℕ → ℕ → ℕ → ℕ → ℕ → ℕ → ℕ → ℕ → ℕ → Result Row
 judge end p d t n k a b c =
-    judged (leb (p + n) end && (eqb (n % 4) 0 && lengthRule t n a b c)) (eqb t «MQCFT_GROUP» && ltb mostDepth d) p (rowOf p d t n k a)
+    judged (leb (p + n) end && (aligned n && lengthRule t n a b c)) (eqb t «MQCFT_GROUP» && ltb mostDepth d) p (rowOf p d t n k a)
 
 -- The structure at the place p and depth d: its row, or 3 or 4 at p. The fields stand at 0 Type, 4 StrucLength,
 -- 8 Parameter, then 12, 16 and 20. Where fewer than 16 bytes are left no length rule can be kept: that is 3.

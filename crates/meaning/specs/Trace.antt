@@ -66,13 +66,16 @@ abbrev pub activities : List Row → List Top
 activities rows = groups «MQGACF_ACTIVITY» rows
 
 -- DIRECT MEMBERS: of the rows inside a top-level group those of depth 2, and not what is nested deeper
-unfoldable pub ofDepth2 : List Row → List Row
-ofDepth2 [] = []
-ofDepth2 (r ∷ rs) = consIf (eqb (r .depth) 2) r (ofDepth2 rs)
+abbrev pub isDirect : Row → Bool
+isDirect r = eqb (r .depth) 2
+
+unfoldable pub directIn : List Row → List Row
+directIn [] = []
+directIn (r ∷ rs) = consIf (isDirect r) r (directIn rs)
 
 unfoldable pub directMembers : List Top → List Row
 directMembers [] = []
-directMembers (t ∷ ts) = ofDepth2 (t .inside) ++ directMembers ts
+directMembers (t ∷ ts) = directIn (t .inside) ++ directMembers ts
 
 -- the members that have an identifier
 unfoldable pub named : ℕ → List Row → List Row
