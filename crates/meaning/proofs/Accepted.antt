@@ -1,31 +1,29 @@
 -- AN ACCEPTED EVENT leaves a sound trace: one counter one higher, the other seven values and all eight places kept; the
 -- message is the old one with that counter raised and, if the group was appended, the header's count raised and then the
 -- group; its Activity groups are the old ones and the new one, last.
-use mathlib.Core.Path.{_≡_, refl, sym, ap, _∙_, subst}
-use mathlib.Core.Bool.{Bool, true, false, cond, not, _&&_, _||_}
-use mathlib.Core.List.{List, [], _∷_, _++_}
-use Prim.Native.Nat.{ℕ, _+_, _≤_, _<_}
+use mathlib.Core.Path.{_≡_, refl, ap, _∙_, subst}
+use mathlib.Core.Bool.{Bool, true, false, cond, not, _&&_}
+use mathlib.Core.List.{List, _++_}
+use Prim.Native.Nat.{ℕ, _+_, _≤_}
 use native.Mathlib.Nat.{add-zero}
 use native.Mathlib.Omega.{arith}
 use lib.ListN.{length, take, drop}
-use lib.Seq.{length-take-le}
 use lib.Dec.{leb, eqb}
-use Rattle.meaning.specs.Bytes.{Part, num, splice, store, bump}
+use Rattle.meaning.specs.Bytes.{Part, bump}
 use Rattle.meaning.specs.Names.{mostCount, mostBytes}
-use Rattle.meaning.specs.Answer.{Result, accepted, refused, when, unless}
-use Rattle.meaning.specs.Message.{parameterCount, countPlace, partOf}
+use Rattle.meaning.specs.Answer.{accepted, when, unless}
+use Rattle.meaning.specs.Message.{countPlace, partOf}
 use Rattle.meaning.specs.Trace.{Terms, Trace, value, valuePlace, readTrace}
-use Rattle.meaning.specs.Event.{State, Event, Answer, done, denied, Done, Outcome, soundEvent, groupOf, Plan, planOf, overLimit, replyOwed, reportLength, decide, grown, grownIf, reportedIf, applied, decided, performed, leaving, onTrace, event}
-use Rattle.meaning.specs.Activity.{Span}
+use Rattle.meaning.specs.Event.{State, Event, Answer, done, denied, Done, Outcome, soundEvent, groupOf, Plan, planOf, overLimit, replyOwed, reportLength, decide, grown, grownIf, applied, decided, performed, leaving, onTrace, event}
 use Rattle.meaning.specs.View.{risen}
 use Rattle.meaning.specs.Demand3.{isDone}
 use Rattle.meaning.proofs.Tests.{clash}
 use Rattle.meaning.proofs.Splices.{length-store, take-splice, drop-splice, take-store, drop-store}
 use Rattle.meaning.proofs.Sound.{Sound, sound, read-of}
-use Rattle.meaning.proofs.Changed.{Lies, lies}
+use Rattle.meaning.proofs.Changed.{lies}
 use Rattle.meaning.proofs.Spans.{spansOf}
-use Rattle.meaning.proofs.Plans.{PlanOk, plan-ok, Allowed, allowed}
-use Rattle.meaning.proofs.Views.{spanIf, Leaves, applied-leaves}
+use Rattle.meaning.proofs.Plans.{plan-ok, allowed}
+use Rattle.meaning.proofs.Views.{spanIf, applied-leaves}
 
 -- THE ANSWER of what is done says what was planned
 when-is-done : (b : Bool) (n p : ℕ) (o : Bool) (a : Answer) (d : Done) → when b (denied n p o) a ≡ done d → a ≡ done d

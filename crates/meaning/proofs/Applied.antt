@@ -1,30 +1,30 @@
 -- What an accepted event leaves is a sound trace: the same places, one counter one higher, every other value as it was;
 -- with the group appended its rows stand behind the others.
 use mathlib.Core.Path.{_≡_, refl, sym, ap, _∙_, subst}
-use mathlib.Core.Bool.{Bool, true, false, cond, not, _&&_, _||_}
-use mathlib.Core.List.{List, [], _∷_, _++_, map}
-use Prim.Native.Nat.{ℕ, zero, suc, _+_, _*_, _-_, _%_, _≤_, _<_}
-use native.Mathlib.Nat.{add-zero, zero-add, add-assoc}
+use mathlib.Core.Bool.{Bool, true, false}
+use mathlib.Core.List.{List, _++_, map}
+use Prim.Native.Nat.{ℕ, _+_, _≤_, _<_}
+use native.Mathlib.Nat.{add-zero, zero-add}
 use native.Mathlib.Omega.{arith}
-use lib.ListN.{length, getD, set, take, drop, length-append, length-drop, length-set, length-map}
-use lib.Seq.{length-take-le, getD-take, getD-drop, getD-append-add, ext-getD, getD-set-same, getD-set-other}
-use lib.Dec.{leb, ltb, eqb}
-use borrow.Author.Tests.{ltb-true, lt-ltb, leb-true, leb-false, le-leb, eqb-true, eqb-false}
-use Rattle.meaning.specs.Bytes.{Part, num, splice, store, bump}
+use lib.ListN.{length, getD, set, length-set, length-map}
+use lib.Seq.{getD-take, ext-getD, getD-set-same, getD-set-other}
+use lib.Dec.{leb, eqb}
+use borrow.Author.Tests.{lt-ltb, leb-true, eqb-true, eqb-false}
+use Rattle.meaning.specs.Bytes.{Part, num, bump}
 use Rattle.meaning.specs.Names.{«MQCFT_GROUP», «MQGACF_ACTIVITY», mostBytes, mostCount, twoTo31}
 use Rattle.meaning.specs.Answer.{Result, accepted, refused}
 use Rattle.meaning.specs.Structure.{Row, small}
-use Rattle.meaning.specs.Walk.{Walked, walked, walk}
+use Rattle.meaning.specs.Walk.{Walked, walk}
 use Rattle.meaning.specs.Message.{parameterCount, countPlace, partOf}
-use Rattle.meaning.specs.Trace.{Terms, Trace, value, valuePlace, valueAt, valuesAt, sheetOk}
+use Rattle.meaning.specs.Trace.{Terms, Trace, value, valuePlace, valueAt, valuesAt}
 use Rattle.meaning.specs.Event.{lent, endsAt, groupOk, grown}
 use Rattle.meaning.specs.View.{risen}
-use Rattle.meaning.proofs.Tests.{clash, and-true, true-and}
+use Rattle.meaning.proofs.Tests.{clash, and-true}
 use Rattle.meaning.proofs.Structures.{Match, num-match, num-same}
 use Rattle.meaning.proofs.Walks.{Walks, walks, walks-as, walks-shift, shift}
 use Rattle.meaning.proofs.Splices.{length-splice, splice-before, splice-in, length-store, store-same, num-store}
-use Rattle.meaning.proofs.Sound.{SoundMessage, Sound, InBuffer}
-use Rattle.meaning.proofs.Changed.{Changed, Lies, lies, InRange, in-range, length-places, length-values, value-of, values-kept, count-le, sound-raised, sound-appended, OneActivity}
+use Rattle.meaning.proofs.Sound.{SoundMessage, Sound}
+use Rattle.meaning.proofs.Changed.{Changed, Lies, lies, length-places, length-values, value-of, values-kept, count-le, sound-raised, sound-appended, OneActivity}
 
 -- a sound group, as its walk
 pub record Group (g : List ℕ) : Type 0 where

@@ -1,18 +1,18 @@
 -- The eight attributes: the rows that their places stand for, and what leaves them where they are.
-use mathlib.Core.Path.{_≡_, refl, sym, ap, _∙_, subst}
+use mathlib.Core.Path.{_≡_, refl, sym, ap, _∙_}
 use mathlib.Core.Bool.{Bool, true, false, cond, not, _&&_}
 use mathlib.Core.List.{List, [], _∷_, _++_, map, append-nil}
-use Prim.Native.Nat.{ℕ, zero, suc, _+_, _-_, _≤_, _<_}
-use native.Mathlib.Nat.{not-suc-le-zero, le-of-suc-le-suc, zero-add}
+use Prim.Native.Nat.{ℕ, zero, suc, _≤_, _<_}
+use native.Mathlib.Nat.{not-suc-le-zero, le-of-suc-le-suc}
 use native.Mathlib.Omega.{arith}
 use lib.ListN.{length, getD}
-use lib.Dec.{leb, ltb, eqb}
-use borrow.Author.Tests.{ltb-true, leb-true, eqb-true, eqb-false, eq-eqb, ne-eqb, not-true}
-use Rattle.meaning.specs.Names.{«MQCFT_INTEGER», «MQCFT_GROUP», twoTo31}
+use lib.Dec.{leb, eqb}
+use borrow.Author.Tests.{ltb-true, eqb-true, eqb-false, ne-eqb, not-true}
+use Rattle.meaning.specs.Names.{«MQCFT_INTEGER», twoTo31}
 use Rattle.meaning.specs.Answer.{consIf}
 use Rattle.meaning.specs.Structure.{Row, small}
-use Rattle.meaning.specs.Trace.{absent, different, Top, isTop, isDirect, untilTop, tops, isGroup, groupsIn, groups, directIn, directMembers, named, oneInteger, eachOnce, placeOfFirst, placesOf}
-use Rattle.meaning.proofs.Tests.{clash, and-true, and-false}
+use Rattle.meaning.specs.Trace.{absent, different, Top, isTop, isDirect, untilTop, tops, isGroup, groupsIn, groups, directIn, directMembers, named, oneInteger, eachOnce, placeOfFirst}
+use Rattle.meaning.proofs.Tests.{clash, and-true}
 use Rattle.meaning.proofs.Walks.{In, here, there, in-nil, in-cases}
 
 in-consIf : {G : Type 0} {r : Row} (b : Bool) (x : Row) (xs : List Row) → (b ≡ true → r ≡ x → G) → (In r xs → G) → In r (consIf b x xs) → G

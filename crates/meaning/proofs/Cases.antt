@@ -2,7 +2,7 @@
 use mathlib.Core.Path.{_≡_, refl}
 use mathlib.Core.Bool.{Bool, true, false}
 use mathlib.Core.List.{List, [], _∷_, _++_, map}
-use Prim.Native.Nat.{ℕ, zero, suc, _+_, _*_}
+use Prim.Native.Nat.{ℕ, zero, suc}
 use lib.ListN.{length, replicate}
 use Rattle.meaning.specs.Bytes.{number, word, bytes4, words, splice, store}
 use Rattle.meaning.specs.Names.{RecordedActivities, UnrecordedActivities, DiscontinuityCount, «MQROUTE_DETAIL_LOW», «MQROUTE_ACCUMULATE_IN_MSG»}
@@ -11,11 +11,11 @@ use Rattle.meaning.specs.Structure.{lengthRule, judge, structureAt}
 use Rattle.meaning.specs.Walk.{walkFuel, walk}
 use Rattle.meaning.specs.Message.{headerOk, lengthOk, closed, rowsOf, scan, check}
 use Rattle.meaning.specs.Listing.{ascii, digits, decimal, column, headerLine, rowLine, rowLines, endLine, listingText, refusalLine, listing}
-use Rattle.meaning.specs.Trace.{Terms, absent, different, sheetOk, traceFields, traceHeader, untilTop, tops, groupsIn, groups, directIn, directMembers, named, oneInteger, eachOnce, placeOfFirst, placesOf, valueAt, valuesAt, detailOk, accumulateOk, anyBit, oneBit, forwardOk, deliverOk, inRange, readMembers, readRows, readTrace, read}
+use Rattle.meaning.specs.Trace.{absent, different, sheetOk, traceFields, traceHeader, untilTop, tops, groupsIn, groups, directIn, directMembers, named, oneInteger, eachOnce, placeOfFirst, placesOf, valueAt, valuesAt, detailOk, accumulateOk, anyBit, oneBit, forwardOk, deliverOk, inRange, readMembers, readRows, readTrace, read}
 use Rattle.meaning.specs.Compose.{headerFields, traceHeaderFields, reportHeaderFields, groupFields, integers, composedFields, composed, valuesOk, composeAnswer, compose}
-use Rattle.meaning.specs.Event.{Level, low, Activity, Settings, Event, discontinuity, activity, groupOk, groupOf, soundEvent, unrecordedForLevel, reported, accumulated, planOf, Done, Answer, done, denied, sum, overLimit, replyOwed, decide, State, Outcome, grown, reportOf, applied, onTrace, event}
-use Rattle.meaning.specs.Activity.{Span, sizeOf, activityGroup, isPad, trimmed, strings, Name, inMessage, substitute, nameOf}
-use Rattle.meaning.specs.Decision.{Decision, forward, putLocally, withhold, unrecognised, deliverYes, ifSupported, forwardBy, arriveBy, forwarding, arrival}
+use Rattle.meaning.specs.Event.{low, Event, discontinuity, activity, groupOk, groupOf, soundEvent, unrecordedForLevel, reported, accumulated, planOf, Answer, done, denied, sum, overLimit, replyOwed, decide, State, Outcome, grown, reportOf, applied, onTrace, event}
+use Rattle.meaning.specs.Activity.{sizeOf, activityGroup, isPad, trimmed, strings, Name, nameOf}
+use Rattle.meaning.specs.Decision.{Decision, forward, unrecognised, deliverYes, ifSupported, forwardBy, arriveBy, forwarding, arrival}
 use Rattle.meaning.proofs.ReadsBack.{madeUp}
 
 -- what an entry says

@@ -1,25 +1,24 @@
 -- A sound message of which one attribute's Value and the header's ParameterCount are rewritten, and behind which a group
 -- may be appended, is sound.
 use mathlib.Core.Path.{_≡_, refl, sym, ap, _∙_, subst}
-use mathlib.Core.Bool.{Bool, true, false, cond, not, _&&_, _||_}
-use mathlib.Core.List.{List, [], _∷_, _++_, map, append-nil}
-use Prim.Native.Nat.{ℕ, zero, suc, _+_, _*_, _-_, _≤_, _<_}
-use native.Mathlib.Nat.{add-zero}
+use mathlib.Core.Bool.{Bool, true, false, _&&_}
+use mathlib.Core.List.{List, [], _∷_, _++_}
+use Prim.Native.Nat.{ℕ, _+_, _*_, _≤_, _<_}
 use native.Mathlib.Omega.{arith}
-use lib.ListN.{length, getD, take, length-map}
-use lib.Dec.{leb, ltb, eqb}
-use borrow.Author.Tests.{ltb-true, lt-ltb, leb-true, le-leb, eqb-true, eqb-false, eq-eqb, ne-eqb}
+use lib.ListN.{length, getD, length-map}
+use lib.Dec.{leb, eqb}
+use borrow.Author.Tests.{lt-ltb, leb-true, le-leb, eqb-true, eqb-false, eq-eqb}
 use Rattle.meaning.specs.Bytes.{Part, num}
 use Rattle.meaning.specs.Names.{«MQCFH_STRUC_LENGTH», «MQCFH_VERSION_3», «MQCFT_GROUP», «MQGACF_TRACE_ROUTE», «MQGACF_ACTIVITY», mostBytes, twoTo31}
 use Rattle.meaning.specs.Structure.{Row, small}
 use Rattle.meaning.specs.Message.{field, parameterCount, countPlace, firstPlace, headerOk}
-use Rattle.meaning.specs.Trace.{Trace, Top, isTop, isGroup, traceRoutes, activities, directMembers, named, placeOfFirst, placesOf, eachOnce, traceFields, traceHeader, value, valuePlace, valueAt, valuesAt, detailOk, accumulateOk, forwardOk, deliverOk, inRange, different, sheetOk}
-use Rattle.meaning.proofs.Tests.{clash, and-true, true-and, and-false}
-use Rattle.meaning.proofs.Structures.{RowAt, row-at, Match, num-match, num-same}
-use Rattle.meaning.proofs.Walks.{Walks, none, more, walks-as, walks-le, walks-append, walks-shift, walks-depth, shift, In, here, there, in-nil, Tiles, tiles, tiles-row, Single, single}
-use Rattle.meaning.proofs.Kept.{Clear, own, below, above, tiles-above, tiles-clear, Agree, kept}
-use Rattle.meaning.proofs.Attributes.{Attribute, attribute, once-at, getD-map, different-at, Deep, groups-more, groups-same}
-use Rattle.meaning.proofs.Sound.{SoundRows, SoundMessage}
+use Rattle.meaning.specs.Trace.{Trace, isTop, isGroup, traceRoutes, activities, directMembers, named, placeOfFirst, placesOf, traceFields, traceHeader, value, valuePlace, valueAt, valuesAt, detailOk, accumulateOk, forwardOk, deliverOk, inRange, different, sheetOk}
+use Rattle.meaning.proofs.Tests.{and-true, true-and, and-false}
+use Rattle.meaning.proofs.Structures.{num-same}
+use Rattle.meaning.proofs.Walks.{Walks, walks-as, walks-le, walks-append, Tiles, tiles, tiles-row, Single, single}
+use Rattle.meaning.proofs.Kept.{Clear, own, below, above, tiles-above, tiles-clear, kept}
+use Rattle.meaning.proofs.Attributes.{Attribute, attribute, once-at, getD-map, different-at, groups-more, groups-same}
+use Rattle.meaning.proofs.Sound.{SoundMessage}
 
 -- the bytes of m that m′ may have otherwise: those of ParameterCount, and of the Value of the structure at q
 pub record Changed (m m′ : Part) (q : ℕ) : Type 0 where

@@ -1,27 +1,24 @@
 -- A composed message reads back as the values it was made from, and is seen as nine structures.
 use mathlib.Core.Path.{_≡_, refl, sym, ap, _∙_, subst}
-use mathlib.Core.Bool.{Bool, true, false, cond, not, _&&_}
+use mathlib.Core.Bool.{true, false, not}
 use mathlib.Core.List.{List, [], _∷_, _++_, map, append-nil, append-assoc}
-use Prim.Native.Nat.{ℕ, zero, suc, _+_, _*_, _-_, _≤_, _<_}
-use native.Mathlib.Nat.{not-suc-le-zero, le-of-suc-le-suc, zero-add, add-zero}
+use Prim.Native.Nat.{ℕ, zero, suc, _+_, _*_, _≤_, _<_}
+use native.Mathlib.Nat.{not-suc-le-zero, le-of-suc-le-suc, add-zero}
 use native.Mathlib.Omega.{arith}
-use lib.ListN.{length, getD, take, drop, length-append, List·getD-append, length-map}
-use lib.Seq.{getD-append-add, take-at, ext-getD}
-use lib.Dec.{leb, ltb, eqb}
-use borrow.Author.Tests.{ltb-true, lt-ltb, leb-true, le-leb, eqb-true, eqb-false, eq-eqb, ne-eqb, not-true}
-use Rattle.meaning.specs.Bytes.{Part, number, num, word, words, splice}
-use Rattle.meaning.specs.Names.{«MQGACF_TRACE_ROUTE»}
-use Rattle.meaning.specs.Answer.{Result, accepted, refused, andThen, unless}
+use lib.ListN.{length, getD, List·getD-append, length-map}
+use lib.Seq.{getD-append-add, ext-getD}
+use lib.Dec.{eqb}
+use borrow.Author.Tests.{le-leb, eqb-true, eqb-false, eq-eqb, ne-eqb, not-true}
+use Rattle.meaning.specs.Bytes.{Part, num, word}
+use Rattle.meaning.specs.Answer.{accepted}
 use Rattle.meaning.specs.Structure.{Row, lengthRule, judge, structureAt}
-use Rattle.meaning.specs.Message.{field, parameterCount, firstPlace, partOf, headerOk, scan, check, countOf, countsFrom, tally}
-use Rattle.meaning.specs.Listing.{ascii, digits, decimal, column, headerLine, rowLine, rowLines, endLine, listingText, listing}
-use Rattle.meaning.specs.Trace.{Terms, Trace, absent, different, sheetOk, traceFields, traceHeader, untilTop, tops, groupsIn, groups, traceRoutes, directIn, directMembers, named, oneInteger, eachOnce, placeOfFirst, placesOf, value, valuePlace, valueAt, valuesAt, inRange, readTrace, read}
-use Rattle.meaning.specs.Compose.{headerFields, traceHeaderFields, groupFields, integers, composedFields, composed, valuesOk, composeAnswer, composedBuffer, Composed, compose}
-use Rattle.meaning.proofs.Tests.{clash, and-true, true-and}
+use Rattle.meaning.specs.Message.{field, headerOk, countOf, countsFrom}
+use Rattle.meaning.specs.Trace.{absent, different, sheetOk, traceFields, traceHeader, untilTop, tops, groupsIn, groups, traceRoutes, directIn, directMembers, named, oneInteger, eachOnce, placeOfFirst, placesOf, valueAt, valuesAt, inRange}
+use Rattle.meaning.specs.Compose.{headerFields, traceHeaderFields, groupFields, integers, composedFields}
+use Rattle.meaning.proofs.Tests.{and-true, true-and}
 use Rattle.meaning.proofs.Walks.{Walks, none, more, walks-as}
-use Rattle.meaning.proofs.Numbers.{length-words, number-words, Run, number-match}
-use Rattle.meaning.proofs.Attributes.{getD-map, absent-at, Different, different-parts, small-at}
-use Rattle.meaning.proofs.Sound.{SoundRows, InBuffer, SoundMessage, Sound, scan-of, read-of}
+use Rattle.meaning.proofs.Attributes.{getD-map, absent-at, different-parts, small-at}
+use Rattle.meaning.proofs.Sound.{SoundRows, SoundMessage}
 
 -- THE WORDS of integers
 length-integers : (is vs : List ℕ) → length is ≡ length vs → length (integers is vs) ≡ 4 * length is

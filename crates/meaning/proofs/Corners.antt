@@ -1,22 +1,20 @@
 -- CORNERS of the rules, computed: the errors that old forwarders made, and the points that are easily misread.
 -- One table, and one theorem that the definitions answer as it says.
 use mathlib.Core.Path.{_≡_, refl}
-use mathlib.Core.Bool.{Bool, true, false}
+use mathlib.Core.Bool.{true, false}
 use mathlib.Core.List.{List, [], _∷_, _++_, map}
 use Prim.Native.Nat.{ℕ, zero, suc, _+_}
 use lib.ListN.{length, replicate}
 use Rattle.meaning.specs.Bytes.{words}
-use Rattle.meaning.specs.Names.{RecordedActivities}
-use Rattle.meaning.specs.Answer.{Result, accepted, refused}
-use Rattle.meaning.specs.Message.{step}
-use Rattle.meaning.specs.Trace.{Terms, read}
+use Rattle.meaning.specs.Answer.{accepted, refused}
+use Rattle.meaning.specs.Trace.{read}
 use Rattle.meaning.specs.Compose.{compose}
-use Rattle.meaning.specs.Event.{State, Outcome, discontinuity, denied, done, event}
-use Rattle.meaning.specs.Activity.{Span, activityGroup, Name, inMessage, substitute, nameOf}
+use Rattle.meaning.specs.Event.{State, discontinuity, denied, event}
+use Rattle.meaning.specs.Activity.{activityGroup, inMessage, substitute, nameOf}
 use Rattle.meaning.specs.Demand3.{soundTrace, limitOf, larger}
 use Rattle.meaning.proofs.ReadsBack.{madeUp}
-use Rattle.meaning.proofs.Cases.{Told, checks, reads, answers, leaves, names, decides, Case, case, checked, header, traceWith, counting, on, activityWith, lentGroup, counted, rejected, forwarded, nested, definitions}
-use Rattle.meaning.specs.Decision.{Decision, forward, putLocally, withhold, arrival}
+use Rattle.meaning.proofs.Cases.{Told, checks, reads, answers, leaves, names, decides, Case, case, checked, header, traceWith, counting, on, activityWith, rejected, forwarded, definitions}
+use Rattle.meaning.specs.Decision.{forward, putLocally, withhold, arrival}
 
 -- structures one behind the other
 abbrev join : List (List ℕ) → List ℕ

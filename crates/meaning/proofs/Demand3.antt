@@ -1,26 +1,26 @@
 -- DEMAND 3, over whole lists of events: `demand3` at the end.
 use mathlib.Core.Path.{_≡_, refl, sym, ap, _∙_, subst}
-use mathlib.Core.Bool.{Bool, true, false, cond, not, _&&_, _||_}
+use mathlib.Core.Bool.{Bool, true, false, cond, _&&_}
 use mathlib.Core.List.{List, [], _∷_, _++_}
 use Prim.Native.Nat.{ℕ, zero, suc, _+_, _≤_, _<_}
 use native.Mathlib.Nat.{add-zero, add-assoc, not-suc-le-zero}
 use native.Mathlib.Omega.{arith}
 use lib.ListN.{length, getD, take}
 use lib.Seq.{take-suc, getD-set-same, getD-set-other}
-use lib.Dec.{leb, ltb, eqb}
+use lib.Dec.{eqb}
 use borrow.Author.Tests.{eqb-true, eqb-false}
 use Rattle.meaning.specs.Names.{MaxActivities}
 use Rattle.meaning.specs.Answer.{Result, accepted, refused, unless}
 use Rattle.meaning.specs.Trace.{Terms, Trace, value, valuePlace, readTrace}
-use Rattle.meaning.specs.Event.{State, Event, discontinuity, Answer, done, denied, Outcome, soundEvent, groupOf, planOf, sum, overLimit, decide, applied, decided, performed, leaving, onTrace, event}
+use Rattle.meaning.specs.Event.{State, Event, discontinuity, Answer, done, denied, soundEvent, groupOf, planOf, sum, overLimit, decided, performed, leaving, onTrace, event}
 use Rattle.meaning.specs.View.{View, viewOf, risen, viewAfter, Seen, seeing, verdict, seen}
-use Rattle.meaning.specs.Demand3.{readOf, isAccepted, soundTrace, valuesIn, placesIn, sumOf, limitOf, limitPlace, larger, Alike, stateAfter, eventAt, stateAt, answerAt, isDone, isLimit, acceptedIn, due, Kept, Demand3}
+use Rattle.meaning.specs.Demand3.{isAccepted, soundTrace, sumOf, limitOf, limitPlace, larger, Alike, stateAfter, eventAt, stateAt, answerAt, isDone, isLimit, acceptedIn, due, Kept, Demand3}
 use Rattle.meaning.proofs.Tests.{clash, and-true}
-use Rattle.meaning.proofs.Sound.{Sound, sound}
+use Rattle.meaning.proofs.Sound.{sound}
 use Rattle.meaning.proofs.Changed.{length-values}
-use Rattle.meaning.proofs.Plans.{PlanOk, plan-ok, decide-limit, over-denied, leaving-answer}
-use Rattle.meaning.proofs.Views.{Faithful, event-seen}
-use Rattle.meaning.proofs.Twins.{limitAt, places-alike, Both, event-both}
+use Rattle.meaning.proofs.Plans.{plan-ok, decide-limit, over-denied}
+use Rattle.meaning.proofs.Views.{event-seen}
+use Rattle.meaning.proofs.Twins.{limitAt, Both, event-both}
 
 -- ONE EVENT, as seen: the sum rises by one exactly if it is accepted, and the limit stays
 sum-risen : (v : List ℕ) (c : ℕ) → length v ≡ 8 → 1 ≤ c → c ≤ 3 → sum (risen v c) ≡ sum v + 1

@@ -1,15 +1,15 @@
 -- The walk's fuel never shows: any fuel that is at least the number of bytes left gives the same walk, refused ones too.
 -- So the walk of a part keeps two plain equations, by which code follows it.
-use mathlib.Core.Path.{_≡_, refl, sym, ap, _∙_}
-use mathlib.Core.List.{List, [], _∷_, _++_}
-use Prim.Native.Nat.{ℕ, zero, suc, _+_, _≤_, _<_}
+use mathlib.Core.Path.{_≡_, refl, ap, _∙_}
+use mathlib.Core.List.{List, [], _++_}
+use Prim.Native.Nat.{ℕ, zero, suc, _+_, _≤_}
 use native.Mathlib.Omega.{arith}
 use Rattle.meaning.specs.Bytes.{Part}
 use Rattle.meaning.specs.Answer.{Result, accepted, refused, andThen}
 use Rattle.meaning.specs.Structure.{Row, structureAt}
 use Rattle.meaning.specs.Walk.{Walked, walked, followedBy, ahead, enter, walkFuel, walk}
-use Rattle.meaning.proofs.Structures.{RowAt, row-at, structure-short}
-use Rattle.meaning.proofs.Walks.{Walks, walks-fuel, walks-le}
+use Rattle.meaning.proofs.Structures.{row-at, structure-short}
+use Rattle.meaning.proofs.Walks.{walks-fuel, walks-le}
 
 -- the fuel falls by one at each call
 fuel-rest : (s : Part) (f f′ q d n : ℕ) (w : Result Walked)

@@ -1,15 +1,14 @@
 -- Rewriting the Value of an integer structure, or bytes in front of the structures, or letting the part grow, keeps the walk.
-use mathlib.Core.Path.{_≡_, refl, sym, ap, _∙_, subst}
-use mathlib.Core.Bool.{Bool, true, false, cond, _&&_}
-use mathlib.Core.List.{List, [], _∷_, _++_}
-use Prim.Native.Nat.{ℕ, zero, suc, _+_, _*_, _≤_, _<_}
+use mathlib.Core.Path.{_≡_, refl, sym, ap, _∙_}
+use mathlib.Core.List.{List, [], _∷_}
+use Prim.Native.Nat.{ℕ, _+_, _≤_, _<_}
 use native.Mathlib.Omega.{arith}
-use lib.ListN.{length, getD}
+use lib.ListN.{getD}
 use Rattle.meaning.specs.Bytes.{Part, num, word}
 use Rattle.meaning.specs.Names.{«MQCFT_INTEGER»}
-use Rattle.meaning.specs.Answer.{Result, accepted, refused}
+use Rattle.meaning.specs.Answer.{accepted}
 use Rattle.meaning.specs.Structure.{Row, judge, structureAt}
-use Rattle.meaning.proofs.Structures.{RowAt, row-at, moved, Match, num-match, structure-match, judge-place, judge-integer}
+use Rattle.meaning.proofs.Structures.{row-at, moved, Match, num-match, structure-match, judge-place, judge-integer}
 use Rattle.meaning.proofs.Walks.{Walks, In, here, there, in-nil, Tiles, tiles, keep}
 
 -- the structure r is the integer at q, or lies in front of it, or behind it

@@ -1,21 +1,19 @@
 -- What is planned for an event, and what an accepted answer tells.
-use mathlib.Core.Path.{_≡_, refl, sym, ap, _∙_}
-use mathlib.Core.Bool.{Bool, true, false, cond, not, _&&_, _||_}
-use mathlib.Core.List.{List, [], _∷_}
+use mathlib.Core.Path.{_≡_, refl}
+use mathlib.Core.Bool.{Bool, true, false, not, _&&_, _||_}
+use mathlib.Core.List.{List}
 use Prim.Native.Nat.{ℕ, zero, suc, _+_, _≤_, _<_}
 use native.Mathlib.Nat.{not-suc-le-zero}
 use native.Mathlib.Omega.{arith}
-use lib.ListN.{length}
-use lib.Dec.{leb, ltb, eqb}
+use lib.Dec.{leb, eqb}
 use borrow.Author.Tests.{ltb-true, leb-true, eqb-false}
 use Rattle.meaning.specs.Names.{mostBytes, mostCount, twoTo31}
 use Rattle.meaning.specs.Answer.{when}
-use Rattle.meaning.specs.Structure.{small}
 use Rattle.meaning.specs.Trace.{value, inRange}
-use Rattle.meaning.specs.Event.{Event, discontinuity, activity, Answer, done, denied, soundEvent, groupOf, Plan, reported, accumulated, recordedIn, planOf, overLimit, replyOwed, decide, State, Outcome, leaving}
+use Rattle.meaning.specs.Event.{Event, discontinuity, activity, Answer, done, denied, soundEvent, groupOf, Plan, reported, accumulated, recordedIn, planOf, overLimit, replyOwed, decide, State, leaving}
 use Rattle.meaning.specs.Demand3.{isDone, isLimit}
 use Rattle.meaning.proofs.Tests.{clash, and-true, and-not}
-use Rattle.meaning.proofs.Changed.{InRange, in-range}
+use Rattle.meaning.proofs.Changed.{in-range}
 use Rattle.meaning.proofs.Applied.{Group, group}
 
 -- A PLAN raises one of the three counters, and appends or reports only a sound group

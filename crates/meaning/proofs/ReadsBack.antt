@@ -1,24 +1,23 @@
 -- COMPOSE READS BACK: for every sound sheet, all values in range and any bytes behind.
-use mathlib.Core.Path.{_≡_, refl, sym, ap, _∙_, subst}
-use mathlib.Core.Bool.{Bool, true, false, _&&_}
+use mathlib.Core.Path.{_≡_, refl, sym, ap, _∙_}
+use mathlib.Core.Bool.{true}
 use mathlib.Core.List.{List, [], _∷_, _++_}
 use Prim.Native.Nat.{ℕ, _+_, _*_, _≤_, _<_}
 use native.Mathlib.Nat.{zero-add}
 use native.Mathlib.Omega.{arith}
 use lib.ListN.{length, getD, take, drop}
-use lib.Dec.{leb, eqb}
+use lib.Dec.{eqb}
 use borrow.Author.Tests.{eqb-true, le-leb}
-use Rattle.meaning.specs.Bytes.{Part, number, num, words, splice}
-use Rattle.meaning.specs.Answer.{Result, accepted, refused, andThen, unless}
-use Rattle.meaning.specs.Structure.{Row}
+use Rattle.meaning.specs.Bytes.{Part, num, splice}
+use Rattle.meaning.specs.Answer.{accepted}
 use Rattle.meaning.specs.Message.{headerType, command, parameterCount, partOf, scan, check, tally}
 use Rattle.meaning.specs.Listing.{ascii, digits, decimal, column, headerLine, rowLine, rowLines, endLine, listingText, listing}
 use Rattle.meaning.specs.Trace.{Terms, Trace, sheetOk, inRange, different, absent, readTrace, read}
-use Rattle.meaning.specs.Compose.{headerFields, traceHeaderFields, groupFields, composedFields, composed, valuesOk, composeAnswer, composedBuffer, Composed, compose}
+use Rattle.meaning.specs.Compose.{headerFields, traceHeaderFields, groupFields, composedFields, composed, valuesOk, composeAnswer, composedBuffer, compose}
 use Rattle.meaning.proofs.Tests.{and-true}
 use Rattle.meaning.proofs.Numbers.{length-words, number-words}
 use Rattle.meaning.proofs.Splices.{length-splice, take-splice, drop-splice}
-use Rattle.meaning.proofs.Sound.{InBuffer, SoundRows, Sound, scan-of, read-of}
+use Rattle.meaning.proofs.Sound.{InBuffer, scan-of, read-of}
 use Rattle.meaning.proofs.Composed.{integerRows, composedRows, placesFrom, composedTally, length-fields, sheet-length, nine-rows, counted-rows, header-word, structures-sound, composed-sound}
 
 -- what holds of a message that Compose has written into a buffer

@@ -1,32 +1,31 @@
 -- THE REPORT of an accepted activity is itself a sound message of one structure, the Activity group, as check sees it.
-use mathlib.Core.Path.{_≡_, refl, sym, ap, _∙_, subst}
-use mathlib.Core.Bool.{Bool, true, false, cond, _&&_}
+use mathlib.Core.Path.{_≡_, refl, sym, ap, _∙_}
+use mathlib.Core.Bool.{Bool, true, false, cond}
 use mathlib.Core.List.{List, [], _∷_, _++_, map}
 use Prim.Native.Nat.{ℕ, _+_, _*_, _≤_, _<_}
 use native.Mathlib.Nat.{zero-add}
 use native.Mathlib.Omega.{arith}
 use lib.ListN.{length, getD, take, length-append}
 use lib.Seq.{getD-append-add}
-use Rattle.meaning.specs.Bytes.{Part, number, num, words, splice}
-use Rattle.meaning.specs.Answer.{Result, accepted, refused, andThen}
+use Rattle.meaning.specs.Bytes.{Part, words, splice}
+use Rattle.meaning.specs.Answer.{accepted}
 use Rattle.meaning.specs.Structure.{Row}
 use Rattle.meaning.specs.Message.{field, headerType, command, parameterCount, headerOk, partOf, scan, check}
 use Rattle.meaning.specs.Trace.{Terms, Trace, tops, groupsIn, groups, readTrace}
 use Rattle.meaning.specs.Compose.{headerFields, reportHeaderFields}
-use Rattle.meaning.specs.Event.{State, Event, Answer, done, Done, Plan, planOf, groupOf, lent, reportOf, reportedIf, applied, event}
-use Rattle.meaning.specs.Activity.{Span}
+use Rattle.meaning.specs.Event.{State, Event, done, Done, Plan, planOf, groupOf, lent, reportOf, applied, event}
 use Rattle.meaning.specs.Demand3.{isDone}
 use Rattle.meaning.proofs.Numbers.{length-words, number-words, number-in}
 use Rattle.meaning.proofs.Splices.{length-splice, take-splice}
 use Rattle.meaning.proofs.Structures.{Match}
-use Rattle.meaning.proofs.Walks.{Walks, walks-as, shift, Single}
+use Rattle.meaning.proofs.Walks.{walks-as, shift}
 use Rattle.meaning.proofs.Attributes.{tops-append}
-use Rattle.meaning.proofs.Sound.{InBuffer, SoundRows, Sound, sound, scan-of}
+use Rattle.meaning.proofs.Sound.{SoundRows, sound, scan-of}
 use Rattle.meaning.proofs.Changed.{OneActivity, parts, last-top}
 use Rattle.meaning.proofs.Applied.{Group, activity-at}
 use Rattle.meaning.proofs.Spans.{spansOf, spans-more}
-use Rattle.meaning.proofs.Plans.{PlanOk, plan-ok, Allowed, allowed}
-use Rattle.meaning.proofs.Accepted.{WasDone, was-done, planned, decide-done}
+use Rattle.meaning.proofs.Plans.{plan-ok, allowed}
+use Rattle.meaning.proofs.Accepted.{was-done, planned, decide-done}
 
 -- a buffer whose first bytes are the report of a group
 pub record SoundReport (report g : List ℕ) : Type 0 where

@@ -1,21 +1,21 @@
 -- What Read accepts, as a record of facts, and back.
-use mathlib.Core.Path.{_≡_, refl, sym, ap, _∙_, subst}
-use mathlib.Core.Bool.{Bool, true, false, cond, not, _&&_}
-use mathlib.Core.List.{List, [], _∷_, _++_, map}
-use Prim.Native.Nat.{ℕ, zero, suc, _+_, _-_, _≤_, _<_}
+use mathlib.Core.Path.{_≡_, refl, subst}
+use mathlib.Core.Bool.{true, _&&_}
+use mathlib.Core.List.{List}
+use Prim.Native.Nat.{ℕ, _≤_}
 use native.Mathlib.Omega.{arith}
-use lib.ListN.{length, getD, take}
-use lib.Dec.{leb, ltb, eqb}
-use borrow.Author.Tests.{ltb-true, leb-true, le-leb, eqb-true, eq-eqb}
-use Rattle.meaning.specs.Bytes.{Part, num}
+use lib.ListN.{length}
+use lib.Dec.{leb, eqb}
+use borrow.Author.Tests.{leb-true, le-leb, eqb-true, eq-eqb}
+use Rattle.meaning.specs.Bytes.{Part}
 use Rattle.meaning.specs.Names.{mostBytes}
-use Rattle.meaning.specs.Answer.{Result, accepted, refused, andThen, unless}
+use Rattle.meaning.specs.Answer.{accepted}
 use Rattle.meaning.specs.Structure.{Row}
-use Rattle.meaning.specs.Walk.{Walked, walked, walk}
+use Rattle.meaning.specs.Walk.{walk}
 use Rattle.meaning.specs.Message.{parameterCount, firstPlace, headerOk, partOf, lengthOk, closed, rowsOf, scan}
 use Rattle.meaning.specs.Trace.{Terms, Trace, sheetOk, traceHeader, traceRoutes, directMembers, eachOnce, placesOf, valuesAt, inRange, readMembers, readRows, readTrace}
-use Rattle.meaning.proofs.Tests.{clash, and-true, true-and, unless-accepted, then-accepted}
-use Rattle.meaning.proofs.Walks.{Walks, walks, walks-as, walk-of, Tiles, tiles}
+use Rattle.meaning.proofs.Tests.{and-true, unless-accepted, then-accepted}
+use Rattle.meaning.proofs.Walks.{Walks, walks, walks-as, walk-of}
 
 -- A SOUND MESSAGE, as check sees it
 pub record SoundRows (m : Part) (rows : List Row) : Type 0 where

@@ -1,16 +1,14 @@
 -- Where Activity groups lie: a group is as long as its rows, and one appended is the last.
 use mathlib.Core.Path.{_≡_, refl, sym, ap, _∙_}
-use mathlib.Core.Bool.{Bool, true, false}
 use mathlib.Core.List.{List, [], _∷_, _++_, map}
-use Prim.Native.Nat.{ℕ, zero, suc, _+_, _≤_, _<_}
+use Prim.Native.Nat.{ℕ, _+_}
 use native.Mathlib.Omega.{arith}
 use lib.ListN.{length}
 use Rattle.meaning.specs.Bytes.{Part}
 use Rattle.meaning.specs.Structure.{Row}
 use Rattle.meaning.specs.Trace.{Top, activities}
 use Rattle.meaning.specs.Activity.{Span, sizeOf, spanOf}
-use Rattle.meaning.proofs.Structures.{RowAt}
-use Rattle.meaning.proofs.Walks.{Walks, Tiles, tiles, Single}
+use Rattle.meaning.proofs.Walks.{Tiles, tiles}
 use Rattle.meaning.proofs.Changed.{OneActivity, parts, activities-more}
 
 -- rows that lie one behind the other fill the bytes between

@@ -1,15 +1,14 @@
 -- One structure: what an accepted one tells, and what keeps it accepted.
-use mathlib.Core.Path.{_≡_, refl, sym, ap, _∙_, subst}
+use mathlib.Core.Path.{_≡_, refl, sym, ap}
 use mathlib.Core.Bool.{Bool, true, false, cond, _&&_}
-use mathlib.Core.List.{List, [], _∷_, _++_}
-use Prim.Native.Nat.{ℕ, zero, suc, _+_, _*_, _%_, _≤_, _<_}
+use Prim.Native.Nat.{ℕ, _+_, _*_, _%_, _≤_, _<_}
 use native.Mathlib.Omega.{arith}
-use lib.ListN.{length, getD}
+use lib.ListN.{getD}
 use lib.Dec.{leb, ltb, eqb}
-use borrow.Author.Tests.{ltb-true, ltb-false, leb-true, leb-false, eqb-true, le-leb, lt-leb, eq-eqb}
-use Rattle.meaning.specs.Bytes.{Part, number, num, word}
+use borrow.Author.Tests.{leb-true, eqb-true, le-leb}
+use Rattle.meaning.specs.Bytes.{Part, num, word}
 use Rattle.meaning.specs.Names.{«MQCFT_INTEGER», «MQCFT_GROUP», mostDepth}
-use Rattle.meaning.specs.Answer.{Result, accepted, refused}
+use Rattle.meaning.specs.Answer.{accepted, refused}
 use Rattle.meaning.specs.Structure.{Row, small, lengthRule, rowOf, judged, aligned, judge, structureAt}
 use Rattle.meaning.proofs.Numbers.{Run, number-match, number-same}
 use Rattle.meaning.proofs.Tests.{clash, and-true, either, second, is-false, leb-iff, cond-match}

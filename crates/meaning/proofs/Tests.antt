@@ -1,12 +1,11 @@
 -- Laws of Boolean tests and of answers, used everywhere above.
-use mathlib.Core.Path.{_≡_, refl, sym, ap, _∙_}
-use mathlib.Core.Bool.{Bool, true, false, cond, not, _&&_, _||_}
-use mathlib.Core.List.{List, [], _∷_}
-use Prim.Native.Nat.{ℕ, _≤_, _<_}
+use mathlib.Core.Path.{_≡_, refl}
+use mathlib.Core.Bool.{Bool, true, false, cond, not, _&&_}
+use Prim.Native.Nat.{ℕ, _≤_}
 use native.Mathlib.Omega.{arith}
 use lib.Dec.{leb}
 use borrow.Author.Tests.{leb-true, leb-false}
-use Rattle.meaning.specs.Answer.{Result, accepted, refused, andThen, unless, when}
+use Rattle.meaning.specs.Answer.{Result, accepted, refused, andThen, unless}
 
 -- two constructors are never equal
 pub clash : _≡_ {A = ℕ} 0 1 → ⊥

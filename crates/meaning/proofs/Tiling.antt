@@ -9,14 +9,12 @@ use native.Mathlib.Omega.{arith}
 use lib.ListN.{length}
 use lib.Dec.{eqb}
 use borrow.Author.Tests.{eqb-true, eqb-false, ne-eqb}
-use Rattle.meaning.specs.Bytes.{Part}
-use Rattle.meaning.specs.Answer.{Result, accepted, refused, andThen}
+use Rattle.meaning.specs.Answer.{accepted}
 use Rattle.meaning.specs.Structure.{Row}
 use Rattle.meaning.specs.Message.{partOf, scan, check, countOf, countsFrom, tally}
 use Rattle.meaning.specs.Listing.{headerLine, rowLines, endLine, listingText, listing}
-use Rattle.meaning.proofs.Structures.{RowAt}
 use Rattle.meaning.proofs.Walks.{In, here, there, Tiles, tiles, tiles-row}
-use Rattle.meaning.proofs.Sound.{SoundRows, sound-scan}
+use Rattle.meaning.proofs.Sound.{sound-scan}
 
 -- THE SUM of the counts
 unfoldable pub total : List ℕ → ℕ

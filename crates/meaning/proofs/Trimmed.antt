@@ -1,10 +1,10 @@
 -- A TRIMMED NAME is what is left when a run of padding bytes is cut from the end, and it does not end in one.
-use mathlib.Core.Path.{_≡_, refl, sym, ap, _∙_}
+use mathlib.Core.Path.{_≡_, refl, ap}
 use mathlib.Core.Bool.{Bool, true, false, not, _&&_}
 use mathlib.Core.List.{List, [], _∷_, _++_}
 use Prim.Native.Nat.{ℕ}
 use Rattle.meaning.specs.Activity.{isPad, trimmedIf, trimmed}
-use Rattle.meaning.proofs.Tests.{clash, true-and}
+use Rattle.meaning.proofs.Tests.{true-and}
 
 -- every byte is padding
 unfoldable pub allPads : List ℕ → Bool

@@ -1,28 +1,28 @@
 -- Two sound traces alike but for MaxActivities, and one event on both.
-use mathlib.Core.Path.{_≡_, refl, sym, ap, _∙_, subst}
-use mathlib.Core.Bool.{Bool, true, false, cond, not, _&&_, _||_}
-use mathlib.Core.List.{List, [], _∷_, _++_, map}
-use Prim.Native.Nat.{ℕ, zero, suc, _+_, _*_, _-_, _≤_, _<_}
+use mathlib.Core.Path.{_≡_, refl, sym, ap, _∙_}
+use mathlib.Core.Bool.{Bool, true, false, cond, _||_}
+use mathlib.Core.List.{List}
+use Prim.Native.Nat.{ℕ, _+_, _≤_, _<_}
 use native.Mathlib.Omega.{arith}
-use lib.ListN.{length, getD, take, drop}
+use lib.ListN.{length, getD}
 use lib.Seq.{getD-take}
-use lib.Dec.{leb, ltb, eqb}
-use borrow.Author.Tests.{ltb-true, ltb-false, lt-ltb, le-ltb, leb-true, leb-false, le-leb, eqb-true, eqb-false}
-use Rattle.meaning.specs.Bytes.{Part, num, splice, store, bump}
+use lib.Dec.{ltb, eqb}
+use borrow.Author.Tests.{ltb-true, ltb-false, le-ltb, eqb-true}
+use Rattle.meaning.specs.Bytes.{Part, store, bump}
 use Rattle.meaning.specs.Names.{MaxActivities}
-use Rattle.meaning.specs.Answer.{Result, accepted, refused, when, unless}
+use Rattle.meaning.specs.Answer.{accepted, unless}
 use Rattle.meaning.specs.Structure.{Row}
 use Rattle.meaning.specs.Message.{parameterCount, countPlace, partOf}
 use Rattle.meaning.specs.Trace.{Terms, Trace, traceRoutes, directMembers, placesOf, value, valuePlace, valueAt, valuesAt, readTrace}
-use Rattle.meaning.specs.Event.{State, Event, discontinuity, activity, Answer, done, denied, Outcome, soundEvent, groupOf, Plan, reported, accumulated, planOf, sum, overLimit, replyOwed, decide, grown, grownIf, reportedIf, applied, decided, performed, leaving, onTrace, onRead, event}
+use Rattle.meaning.specs.Event.{State, Event, discontinuity, activity, Answer, done, denied, Outcome, soundEvent, groupOf, Plan, reported, accumulated, planOf, sum, overLimit, decide, grown, grownIf, reportedIf, applied, decided, performed, leaving, onTrace, event}
 use Rattle.meaning.specs.Demand3.{isDone, isLimit, larger, Alike}
-use Rattle.meaning.proofs.Tests.{clash, and-true, and-false}
+use Rattle.meaning.proofs.Tests.{and-true, and-false}
 use Rattle.meaning.proofs.Structures.{num-same}
-use Rattle.meaning.proofs.Walks.{Walks, walks-one, walks-as}
+use Rattle.meaning.proofs.Walks.{walks-one, walks-as}
 use Rattle.meaning.proofs.Splices.{length-splice, splice-both, length-store, store-as, store-both}
-use Rattle.meaning.proofs.Sound.{SoundMessage, Sound, sound}
+use Rattle.meaning.proofs.Sound.{Sound, sound}
 use Rattle.meaning.proofs.Changed.{Changed, Lies, lies, value-kept, value-of, tree-kept}
-use Rattle.meaning.proofs.Plans.{PlanOk, plan-ok, Allowed, allowed, decide-limit, leaving-answer}
+use Rattle.meaning.proofs.Plans.{plan-ok, allowed, decide-limit, leaving-answer}
 
 -- the first of the limit's four bytes
 abbrev pub limitAt : Trace → ℕ

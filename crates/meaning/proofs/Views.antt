@@ -1,27 +1,23 @@
 -- Nothing but the view sways an event: on a sound trace it answers as `seen` says of the trace's view, leaves a sound
 -- trace with the attributes where they were, and the view of that is the one that `seen` leaves.
-use mathlib.Core.Path.{_≡_, refl, sym, ap, _∙_, subst}
-use mathlib.Core.Bool.{Bool, true, false, cond, not, _&&_, _||_}
-use mathlib.Core.List.{List, [], _∷_, _++_, map, append-nil}
-use Prim.Native.Nat.{ℕ, zero, suc, _+_, _≤_, _<_}
+use mathlib.Core.Path.{_≡_, refl, sym, ap}
+use mathlib.Core.Bool.{Bool, true, false, cond}
+use mathlib.Core.List.{List, [], _∷_, _++_, append-nil}
+use Prim.Native.Nat.{ℕ, _+_}
 use native.Mathlib.Nat.{add-zero}
-use native.Mathlib.Omega.{arith}
 use lib.ListN.{length}
 use Rattle.meaning.specs.Bytes.{bump}
-use Rattle.meaning.specs.Answer.{Result, accepted, refused, unless}
-use Rattle.meaning.specs.Structure.{Row}
+use Rattle.meaning.specs.Answer.{accepted, unless}
 use Rattle.meaning.specs.Message.{partOf}
 use Rattle.meaning.specs.Trace.{Terms, Trace, value, valuePlace, readTrace}
-use Rattle.meaning.specs.Event.{State, Event, Answer, done, denied, Outcome, soundEvent, groupOf, Plan, planOf, decide, grown, grownIf, reportedIf, applied, decided, performed, leaving, onTrace, onRead, event}
+use Rattle.meaning.specs.Event.{State, Event, Answer, done, denied, Outcome, soundEvent, groupOf, Plan, planOf, grownIf, reportedIf, applied, decided, performed, leaving, onTrace, event}
 use Rattle.meaning.specs.Activity.{Span}
-use Rattle.meaning.specs.View.{View, viewOf, risen, viewAfter, Seen, seeing, verdict, seen}
+use Rattle.meaning.specs.View.{viewOf, risen, viewAfter, Seen, seeing, seen}
 use Rattle.meaning.specs.Demand3.{isDone}
-use Rattle.meaning.proofs.Tests.{clash}
-use Rattle.meaning.proofs.Walks.{shift}
 use Rattle.meaning.proofs.Sound.{Sound, sound, read-of}
-use Rattle.meaning.proofs.Applied.{Group, raised-sound, length-raised, grown-sound, length-grown, appended-activity}
+use Rattle.meaning.proofs.Applied.{raised-sound, length-raised, grown-sound, length-grown, appended-activity}
 use Rattle.meaning.proofs.Spans.{spansOf, spans-more}
-use Rattle.meaning.proofs.Plans.{PlanOk, plan-ok, Allowed, allowed}
+use Rattle.meaning.proofs.Plans.{plan-ok, Allowed, allowed}
 
 -- the part that an appended group is
 unfoldable pub spanIf : Bool → ℕ → ℕ → List Span

@@ -1,13 +1,11 @@
 -- The walk as a derivation: `Walks s p d n rows q` says that the n structures of depth d from p on are sound, have these
 -- rows and end at q. It is the same as an accepted walk, both ways, and structural laws are inductions over it.
 use mathlib.Core.Path.{_≡_, refl, sym, ap, _∙_, subst}
-use mathlib.Core.Bool.{Bool, true, false, cond, _&&_}
 use mathlib.Core.List.{List, [], _∷_, _++_, append-assoc, append-nil, map}
-use Prim.Native.Nat.{ℕ, zero, suc, _+_, _*_, _%_, _≤_, _<_}
-use native.Mathlib.Nat.{suc-add, add-zero, zero-add, add-assoc, not-suc-le-zero}
+use Prim.Native.Nat.{ℕ, zero, suc, _+_, _*_, _≤_}
+use native.Mathlib.Nat.{suc-add, zero-add, add-assoc}
 use native.Mathlib.Omega.{arith}
-use lib.ListN.{length, getD}
-use Rattle.meaning.specs.Bytes.{Part, num, word}
+use Rattle.meaning.specs.Bytes.{Part}
 use Rattle.meaning.specs.Answer.{Result, accepted, refused, andThen}
 use Rattle.meaning.specs.Structure.{Row, structureAt}
 use Rattle.meaning.specs.Walk.{Walked, walked, followedBy, ahead, enter, walkFuel, walk}

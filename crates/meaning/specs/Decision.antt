@@ -1,6 +1,6 @@
 -- Forwarding and arrival.
 use Prim.Native.Nat.{ℕ}
-use mathlib.Core.Bool.{Bool, true, false, not, _&&_}
+use mathlib.Core.Bool.{Bool, not, _&&_}
 use mathlib.Core.List.{List}
 use Rattle.meaning.specs.Names.{«MQROUTE_FORWARD_IF_SUPPORTED», «MQROUTE_DELIVER_YES», «MQROUTE_REJ_UNSUP_MASK», Forward, Deliver, «MQFB_UNSUPPORTED_DELIVERY», «MQFB_UNSUPPORTED_FORWARDING», «MQFB_NOT_FORWARDED»}
 use Rattle.meaning.specs.Answer.{Result, accepted, refused, andThen, when}

@@ -8,7 +8,7 @@ use lib.Dec.{ltb, eqb}
 use Rattle.meaning.specs.Names.{MaxActivities, «MQROUTE_UNLIMITED_ACTIVITIES», «MQFB_MAX_ACTIVITIES»}
 use Rattle.meaning.specs.Answer.{Result, accepted, refused}
 use Rattle.meaning.specs.Trace.{Terms, Trace, value, valuePlace, readTrace}
-use Rattle.meaning.specs.Event.{State, Event, discontinuity, Answer, done, denied, Outcome, event, sum, soundEvent}
+use Rattle.meaning.specs.Event.{State, Event, discontinuity, Answer, done, denied, event, sum, soundEvent}
 
 -- A TRACE of demand 3 is a state under the caller's terms; this is what Read makes of it
 abbrev pub readOf : Terms → State → Result Trace

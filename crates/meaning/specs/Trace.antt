@@ -1,9 +1,9 @@
 -- The trace-route part: sheet, header, the TraceRoute group, the eight attributes, Read.
-use Prim.Native.Nat.{ℕ, zero, suc, _+_}
+use Prim.Native.Nat.{ℕ, _+_}
 use mathlib.Core.Bool.{Bool, true, false, cond, not, _&&_, _||_}
 use mathlib.Core.List.{List, [], _∷_, _++_, map}
 use lib.ListN.{length, getD}
-use lib.Dec.{leb, ltb, eqb}
+use lib.Dec.{leb, eqb}
 use lib.Bits.{bitAnd}
 use Rattle.meaning.specs.Bytes.{Part, num}
 use Rattle.meaning.specs.Names.{«MQCFT_INTEGER», «MQCFT_GROUP», «MQCFT_TRACE_ROUTE», «MQCFH_VERSION_3», «MQCMD_TRACE_ROUTE», «MQCFC_LAST», «MQCC_OK», «MQRC_NONE», «MQGACF_TRACE_ROUTE», «MQGACF_ACTIVITY», «MQROUTE_DETAIL_LOW», «MQROUTE_DETAIL_MEDIUM», «MQROUTE_DETAIL_HIGH», «MQROUTE_ACCUMULATE_NONE», «MQROUTE_ACCUMULATE_IN_MSG», «MQROUTE_ACCUMULATE_AND_REPLY», «MQROUTE_FORWARD_ALL», «MQROUTE_FORWARD_IF_SUPPORTED», «MQROUTE_DELIVER_YES», «MQROUTE_DELIVER_NO», Detail, RecordedActivities, UnrecordedActivities, DiscontinuityCount, MaxActivities, Accumulate, Forward, Deliver, attributes, noTraceHeader, noTraceRoute, badAttribute, badSheet}

@@ -1,6 +1,6 @@
 -- What an event can see of a sound trace, and what it makes of it: nothing else sways an answer.
 use Prim.Native.Nat.{ℕ, _+_}
-use mathlib.Core.Bool.{Bool, true, false, cond}
+use mathlib.Core.Bool.{false, cond}
 use mathlib.Core.List.{List}
 use lib.ListN.{length, set}
 use Rattle.meaning.specs.Names.{badGroup}
