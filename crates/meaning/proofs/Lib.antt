@@ -4,3 +4,4 @@ pub mod Tests
 pub mod Structures
 pub mod Walks
 pub mod Fuel
+pub mod Parts

@@ -1,0 +1,3 @@
+mod Wide
+mod Lengths
+mod Soundness
