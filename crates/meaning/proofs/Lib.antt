@@ -5,3 +5,5 @@ pub mod Structures
 pub mod Walks
 pub mod Fuel
 pub mod Parts
+pub mod Tallies
+pub mod Members
