@@ -7,3 +7,4 @@ pub mod Fuel
 pub mod Parts
 pub mod Tallies
 pub mod Members
+pub mod Scans
