@@ -1,0 +1,8 @@
+mod Wide
+mod Lengths
+mod Soundness
+pub mod Counting
+mod Answers
+mod Turns
+mod Sums
+mod Closes
