@@ -14,7 +14,7 @@ use Rattle.meaning.specs.Names.{mostCount, mostBytes}
 use Rattle.meaning.specs.Answer.{accepted, when, unless}
 use Rattle.meaning.specs.Message.{countPlace, partOf}
 use Rattle.meaning.specs.Trace.{Terms, Trace, value, valuePlace, readTrace}
-use Rattle.meaning.specs.Event.{State, Event, Answer, done, denied, Done, Outcome, soundEvent, groupOf, Plan, planOf, overLimit, replyOwed, reportLength, decide, grown, grownIf, applied, decided, performed, leaving, onTrace, event}
+use Rattle.meaning.specs.Event.{State, Event, Answer, done, denied, Done, Outcome, soundEvent, groupOf, Plan, planOf, overLimit, replyOwed, reportLength, doneBy, decide, grown, grownIf, applied, decided, performed, leaving, onTrace, event}
 use Rattle.meaning.specs.View.{risen}
 use Rattle.meaning.specs.Demand3.{isDone}
 use Rattle.meaning.proofs.Tests.{clash}
@@ -30,16 +30,8 @@ when-is-done : (b : Bool) (n p : ℕ) (o : Bool) (a : Answer) (d : Done) → whe
 when-is-done true n p o a d e = absurd (clash (cc))
 when-is-done false n p o a d e = e
 
-unfoldable pub planned : Plan → ℕ → ℕ → Done
-planned p size len = record {
-  counter = p .counter;
-  appended = p .appends;
-  reportLength = cond (p .reports) (reportLength size) 0;
-  messageLength = len + cond (p .appends) size 0;
-}
-
-pub decide-done : (v : List ℕ) (p : Plan) (size len room reportRoom : ℕ) (d : Done) → decide v p size len room reportRoom ≡ done d → planned p size len ≡ d
-unfolding decide planned
+pub decide-done : (v : List ℕ) (p : Plan) (size len room reportRoom : ℕ) (d : Done) → decide v p size len room reportRoom ≡ done d → doneBy p size len ≡ d
+unfolding decide
 decide-done v p size len room reportRoom d e =
     let a = when-is-done (overLimit v) 10 0 (replyOwed v) _ d e in
     let b = when-is-done (eqb (value v (p .counter)) mostCount) 11 0 false _ d a in
@@ -139,14 +131,14 @@ pub record AcceptedEvent (tm : Terms) (st : State) (e : Event) (t : Trace) (d : 
 -- AN ACCEPTED EVENT LEAVES A SOUND TRACE
 pub accepted-event : (tm : Terms) (st : State) (e : Event) (t : Trace) (d : Done) → readTrace tm (st .buf) (st .len) ≡ accepted t
     → event tm st e .answer ≡ done d → AcceptedEvent tm st e t d
-unfolding planned applied
+unfolding applied
 accepted-event tm st e t d r h =
     let w = was-done tm st e t d r h in
     let s = sound tm (st .buf) (st .len) t r in
     let a = allowed (t .values) e (length (groupOf e)) (st .len) (length (st .buf)) (length (st .report)) (s .message .range) (ap isDone (w .verdict)) in
     let k = plan-ok (t .values) e in
     let n = applied-leaves tm st e t s (w .sound-group) a in
-    let p : planned (planOf (t .values) e) (length (groupOf e)) (st .len) ≡ d = decide-done (t .values) (planOf (t .values) e) (length (groupOf e)) (st .len) _ _ d (w .verdict) in
+    let p : doneBy (planOf (t .values) e) (length (groupOf e)) (st .len) ≡ d = decide-done (t .values) (planOf (t .values) e) (length (groupOf e)) (st .len) _ _ d (w .verdict) in
     subst (AcceptedEvent tm st e t) p (record {
       trace = n .trace;
       reads = rw (w .left) (read-of tm _ _ (n .trace) (n .still-sound));

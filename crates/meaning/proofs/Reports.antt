@@ -13,7 +13,7 @@ use Rattle.meaning.specs.Structure.{Row}
 use Rattle.meaning.specs.Message.{field, headerType, command, parameterCount, headerOk, partOf, scan, check}
 use Rattle.meaning.specs.Trace.{Terms, Trace, tops, groupsIn, groups, readTrace}
 use Rattle.meaning.specs.Compose.{headerFields, reportHeaderFields}
-use Rattle.meaning.specs.Event.{State, Event, done, Done, Plan, planOf, groupOf, lent, reportOf, applied, event}
+use Rattle.meaning.specs.Event.{State, Event, done, Done, Plan, planOf, doneBy, groupOf, lent, reportOf, applied, event}
 use Rattle.meaning.specs.Demand3.{isDone}
 use Rattle.meaning.proofs.Numbers.{length-words, number-words, number-in}
 use Rattle.meaning.proofs.Splices.{length-splice, take-splice}
@@ -25,7 +25,7 @@ use Rattle.meaning.proofs.Changed.{OneActivity, parts, last-top}
 use Rattle.meaning.proofs.Applied.{Group, activity-at}
 use Rattle.meaning.proofs.Spans.{spansOf, spans-more}
 use Rattle.meaning.proofs.Plans.{plan-ok, allowed}
-use Rattle.meaning.proofs.Accepted.{was-done, planned, decide-done}
+use Rattle.meaning.proofs.Accepted.{was-done, decide-done}
 
 -- a buffer whose first bytes are the report of a group
 pub record SoundReport (report g : List ℕ) : Type 0 where
@@ -119,13 +119,13 @@ is-reported false n h = absurd (h refl)
 pub reported-soundly : (tm : Terms) (st : State) (e : Event) (t : Trace) (d : Done) → readTrace tm (st .buf) (st .len) ≡ accepted t
     → event tm st e .answer ≡ done d → (d .reportLength ≡ 0 → ⊥)
     → (d .reportLength ≡ 36 + length (groupOf e)) × SoundReport (event tm st e .next .report) (groupOf e)
-unfolding planned applied
+unfolding applied
 reported-soundly tm st e t d r h z =
     let w = was-done tm st e t d r h in
     let s = sound tm (st .buf) (st .len) t r in
     let p : Plan = planOf (t .values) e in
     let a = allowed (t .values) e (length (groupOf e)) (st .len) (length (st .buf)) (length (st .report)) (s .message .range) (ap isDone (w .verdict)) in
-    let k : planned (planOf (t .values) e) (length (groupOf e)) (st .len) ≡ d = decide-done (t .values) (planOf (t .values) e) (length (groupOf e)) (st .len) _ _ d (w .verdict) in
+    let k : doneBy (planOf (t .values) e) (length (groupOf e)) (st .len) ≡ d = decide-done (t .values) (planOf (t .values) e) (length (groupOf e)) (st .len) _ _ d (w .verdict) in
     let q : planOf (t .values) e .reports ≡ true = is-reported _ (36 + length (groupOf e)) (λ i. z (ap (λ (x : Done). x .reportLength) (sym k) ∙ i)) in
     (ap (λ (x : Done). x .reportLength) (sym k) ∙ rw q refl,
     rw (w .left, q) (sound-report (st .report) (groupOf e) (plan-ok (t .values) e .told q (w .sound-group)) (a .reportable q)))

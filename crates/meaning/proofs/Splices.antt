@@ -2,15 +2,15 @@
 -- Assumes nothing.
 use mathlib.Core.Path.{_≡_, refl, sym, ap, _∙_}
 use mathlib.Core.Bool.{Bool, true, false}
-use mathlib.Core.List.{List, [], _∷_, _++_, append-assoc}
+use mathlib.Core.List.{List, [], _∷_, _++_, append-assoc, append-nil}
 use Prim.Native.Nat.{ℕ, _+_, _-_, _≤_, _<_}
 use native.Mathlib.Nat.{zero-add}
 use native.Mathlib.Omega.{arith}
 use native.Mathlib.Numerals.{towards-suc}
-use lib.ListN.{length, set, getD, take, drop, length-append, length-drop, List·getD-append}
+use lib.ListN.{length, set, getD, take, drop, length-append, length-drop, List·getD-append, drop-of-length-le}
 use lib.Dec.{leb, ltb}
 use borrow.Author.Tests.{ltb-true, ltb-false, leb-true, leb-false}
-use lib.Seq.{length-take-le, getD-append-add, getD-take, getD-drop, sets-eq, paste, take-length, take-at, drop-at, drop-drop, ext-getD}
+use lib.Seq.{length-take-le, getD-append-add, getD-take, getD-drop, sets-eq, paste, take-length, take-at, drop-at, drop-drop, ext-getD, take-all}
 use Rattle.meaning.specs.Bytes.{Part, number, num, bytes4, splice, store}
 use Rattle.meaning.proofs.Numbers.{number-bytes4, length-bytes4, Run, number-match, number-same}
 
@@ -150,3 +150,15 @@ take-store n s b at v h k = take-splice-in n b at (bytes4 v) (omega (arith, leng
 pub drop-store : (n : ℕ) (s : Part) (b : List ℕ) (at v : ℕ) → at + 4 ≤ n → n ≤ length b → drop n (store s b at v) ≡ drop n b
 unfolding store
 drop-store n s b at v h k = drop-splice-behind n b at (bytes4 v) (omega (arith, length-bytes4 v)) k
+
+-- a part lent from n on, which came back with s at its start
+splice-drop : (d : List ℕ) (n : ℕ) (s : List ℕ) → take n d ++ splice (drop n d) 0 s ≡ splice d n s
+unfolding splice
+splice-drop d n s = rw (zero-add, drop-drop) (simp append-assoc)
+
+pub splice-lent : (d : List ℕ) (n : ℕ) (s : List ℕ)
+    → take n d ++ (splice (take (length d - n) (drop n d)) 0 s ++ drop (length d - n) (drop n d)) ≡ splice d n s
+splice-lent d n s =
+    let e : length (drop n d) ≡ length d - n = length-drop n d in
+    let le : length (drop n d) ≤ length d - n = omega arith in
+    rw (take-all (length d - n) (drop n d) le, drop-of-length-le (drop n d) le, append-nil) (splice-drop d n s)

@@ -121,6 +121,15 @@ replyOwed v = eqb (value v Accumulate) «MQROUTE_ACCUMULATE_AND_REPLY»
 abbrev pub reportLength : ℕ → ℕ
 reportLength size = 36 + size
 
+-- what is answered of a plan that is carried out
+abbrev pub doneBy : Plan → ℕ → ℕ → Done
+doneBy p size len = record {
+  counter = p .counter;
+  appended = p .appends;
+  reportLength = cond (p .reports) (reportLength size) 0;
+  messageLength = len + cond (p .appends) size 0;
+}
+
 -- What a plan answers for the values v, a group of `size` bytes, a message of len bytes in a buffer of `room` bytes, and
 -- a report buffer of `reportRoom` bytes: 10; 11, the counter to raise is 2^31 - 1; 12, no room to append; 13, a report is
 -- due and its buffer too short; or done.
@@ -130,12 +139,7 @@ decide v p size len room reportRoom =
     (when (eqb (value v (p .counter)) mostCount) (denied counterFull 0 false)
     (when (p .appends && not (leb (len + size) room && leb (len + size) mostBytes)) (denied noRoom 0 false)
     (when (p .reports && not (leb (reportLength size) reportRoom)) (denied reportTooShort 0 false)
-    (done (record {
-      counter = p .counter;
-      appended = p .appends;
-      reportLength = cond (p .reports) (reportLength size) 0;
-      messageLength = len + cond (p .appends) size 0;
-    })))))
+    (done (doneBy p size len)))))
 
 -- WHAT IS LEFT
 -- the message buffer, the message's length in it, and the report buffer

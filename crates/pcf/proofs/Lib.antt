@@ -2,7 +2,7 @@ mod Wide
 mod Lengths
 mod Soundness
 pub mod Counting
-mod Answers
+pub mod Answers
 mod Turns
 mod Sums
 mod Closes

@@ -41,3 +41,11 @@ pub fn copy(to: &mut [u8], from: &[u8])
         i += 1;
     }
 }
+
+// Writes all of `from` over `to` from `at` on: the part of `to` from there is lent on to the copying routine.
+pub fn copy_to(to: &mut [u8], at: usize, from: &[u8])
+    requires { ⌜ at + length (now from) ≤ length (now to) ⌝ }
+    ensures { λ _. ⌜ now (to .exit) ≡ splice (now (to .entry)) at (now (from .entry)) ⌝ }
+{
+    copy(&mut to[at..], from);
+}

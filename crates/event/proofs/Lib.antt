@@ -1,0 +1,4 @@
+mod Groups
+mod Plans
+mod Verdicts
+mod Writes

@@ -1,0 +1,16 @@
+-- What must hold before an event writes.
+use Prim.Native.Nat.{ℕ, _+_, _≤_, _<_}
+use mathlib.Core.Path.{_≡_}
+use mathlib.Core.Bool.{Bool, true}
+use mathlib.Core.List.{List}
+use lib.ListN.{length}
+use Rattle.meaning.specs.Bytes.{number}
+
+-- the message of len bytes has its header, the counter's Value lies in it, neither number runs over, and an appended group fits
+pub record Writable (buf : List ℕ) (len at value : ℕ) (appends : Bool) (group : List ℕ) : Type 0 where
+  pub header : 36 ≤ len
+  pub message : len ≤ length buf
+  pub inside : at + 4 ≤ len
+  pub value-fits : value + 1 < 4294967296
+  pub count-fits : number buf 32 + 1 < 4294967296
+  pub group-fits : appends ≡ true → len + length group ≤ length buf

@@ -1,0 +1,40 @@
+// The lent Activity group.
+use pcf::Ended;
+use pcf::siblings;
+use wire::number_at;
+ghost use mathlib.Core.Path.{_≡_};
+ghost use Rattle.meaning.specs.Event.{groupOk};
+
+// The fewest bytes of a group, and the most: with a report's header it is still a message.
+const LEAST: usize = 16;
+
+const MOST: usize = 65500;
+
+const MQCFT_GROUP: u32 = 20;
+
+const MQGACF_ACTIVITY: u32 = 8005;
+
+// The lent bytes are one whole Activity group, sound as if top-level, with nothing after it.
+pub fn group_ok(group: &[u8]) -> bool
+    ensures { λ r. ⌜ r ≡ groupOk (now (group .entry)) ⌝ }
+{
+    let len = group.len();
+    if len < LEAST {
+        return false;
+    }
+    if MOST < len {
+        return false;
+    }
+    if number_at(group, 0) != MQCFT_GROUP {
+        return false;
+    }
+    if number_at(group, 8) != MQGACF_ACTIVITY {
+        return false;
+    }
+    let walked = siblings(group, len, 0, 1, 1, [0u32; 27]);
+    let ended = walked.ended;
+    match ended {
+        Ended::Behind(at) => at == len,
+        Ended::Refused(_) => false,
+    }
+}
