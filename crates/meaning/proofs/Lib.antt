@@ -4,3 +4,5 @@ pub mod Tests
 pub mod Structures
 pub mod Walks
 pub mod Fuel
+pub mod Joins
+pub mod Decimals
