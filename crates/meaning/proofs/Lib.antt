@@ -6,3 +6,5 @@ pub mod Walks
 pub mod Fuel
 pub mod Joins
 pub mod Decimals
+pub mod Lines
+pub mod Scans
