@@ -21,14 +21,14 @@ use Rattle.listing.specs.declared.rows.Behind.{Behind}
 use Rattle.listing.proofs.Walked.{Split, split, Opened, opened}
 
 -- another name for the walk
-done-as : {w w′ : Result Walked} {out : List ℕ} {at : ℕ} {t : List ℕ} {r : Behind} → w ≡ w′ → Done w out at t r → Done w′ out at t r
+pub done-as : {w w′ : Result Walked} {out : List ℕ} {at : ℕ} {t : List ℕ} {r : Behind} → w ≡ w′ → Done w out at t r → Done w′ out at t r
 done-as {w} {w′} {out} {at} {t} {r} e x = subst (λ (v : Result Walked). Done v out at t r) e x
 
 -- the same text and the same room, written another way
-wrote-as : {d : List ℕ} {at : ℕ} {xs ys t : List ℕ} {n : ℕ} → xs ≡ ys → Wrote d at xs t n → Wrote d at ys t n
+pub wrote-as : {d : List ℕ} {at : ℕ} {xs ys t : List ℕ} {n : ℕ} → xs ≡ ys → Wrote d at xs t n → Wrote d at ys t n
 wrote-as {d} {at} {xs} {ys} {t} {n} e x = subst (λ (v : List ℕ). Wrote d at v t n) e x
 
-room-as : {d : List ℕ} {at : ℕ} {xs ys : List ℕ} → xs ≡ ys → Room d at xs → Room d at ys
+pub room-as : {d : List ℕ} {at : ℕ} {xs ys : List ℕ} → xs ≡ ys → Room d at xs → Room d at ys
 room-as {d} {at} e x = subst (λ (v : List ℕ). Room d at v) e x
 
 -- no text

@@ -1,2 +1,3 @@
 // The listing of a message as text.
 mod rows;
+mod whole;

@@ -110,6 +110,14 @@ digits-most (suc m) k n h = go k h (λ j. digits-most m j (n / 10)) (lt-or-ge n 
     go zero h f (inr a) = absurd (omega arith)
     go (suc k) h f (inr a) = omega (arith, length-digits-more m n a, f k (omega (arith, pow-suc 10 (suc k))))
 
+digits-length : (m n : ℕ) → length (digits m n) ≤ m
+digits-length zero n = rw digits-none (omega arith)
+digits-length (suc m) n = go (digits-length m (n / 10)) (lt-or-ge n 10)
+  where
+    go : length (digits m (n / 10)) ≤ m → (n < 10) ⊎ (10 ≤ n) → length (digits (suc m) n) ≤ suc m
+    go h (inl a) = rw (digits-one m n a) (omega arith)
+    go h (inr a) = rw (length-digits-more m n a) (omega arith)
+
 pub decimal-one : (n : ℕ) → n < 10 → decimal n ≡ (48 + n) ∷ []
 unfolding decimal
 decimal-one n h = digits-one 9 n h
@@ -122,6 +130,10 @@ decimal-exact k n f l h = length-digits 10 k n l h f
 pub decimal-most : (k n : ℕ) → n < 10 ^ suc k → length (decimal n) ≤ suc k
 unfolding decimal
 decimal-most k n h = digits-most 10 k n h
+
+pub decimal-ten : (n : ℕ) → length (decimal n) ≤ 10
+unfolding decimal
+decimal-ten n = digits-length 10 n
 
 -- the first digit of a number that is not 0 is not 0
 digits-some : (k n : ℕ) → 0 < k → 0 < length (digits k n)
@@ -192,19 +204,22 @@ pub length-rowLine : (r : Row) → length (rowLine r)
 unfolding rowLine
 length-rowLine r = simp length-append
 
--- a column of a number below 10 ^ (k + 1) has at most k + 2 bytes
+-- a column of a number below 10 ^ (k + 1) has at most k + 2 bytes, and of any number at most 11
 column-most : (k n behind : ℕ) → n < 10 ^ suc k → length (column n behind) ≤ suc (suc k)
 column-most k n behind h = omega (arith, length-column n behind, decimal-most k n h)
 
+pub column-ten : (n behind : ℕ) → length (column n behind) ≤ 11
+column-ten n behind = omega (arith, length-column n behind, decimal-ten n)
+
 -- a row of a message has a line of at most 28 bytes
-pub rowLine-most : (r : Row) → r .depth < 10 → r .place < 100000 → r .kind < 100 → r .parameter < 10 ^ 10 → r .size < 100000 → length (rowLine r) ≤ 28
-rowLine-most r d p k v n =
+pub rowLine-most : (r : Row) → r .depth < 10 → r .place < 100000 → r .kind < 100 → r .size < 100000 → length (rowLine r) ≤ 28
+rowLine-most r d p k n =
     omega (
       arith,
       length-rowLine r,
       column-most 0 (r .depth) blank d,
       column-most 4 (r .place) blank p,
       column-most 1 (r .kind) blank k,
-      column-most 9 (r .parameter) blank v,
+      column-ten (r .parameter) blank,
       column-most 4 (r .size) newline n,
     )

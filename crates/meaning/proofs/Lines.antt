@@ -7,18 +7,19 @@ use mathlib.Core.Logic.{_⊎_, inl, inr}
 use mathlib.Core.List.{List, [], _∷_, _++_, append-assoc}
 use Prim.Native.Nat.{ℕ, zero, suc, _+_, _*_, _≤_, _<_}
 use native.Mathlib.Omega.{arith}
-use lib.ListN.{length, getD, length-append}
+use lib.ListN.{length, length-append}
 use lib.Dec.{leb, ltb, eqb}
 use borrow.Author.Tests.{ltb-false, eqb-true, eqb-false, eq-eqb, le-leb}
-use Rattle.meaning.specs.Bytes.{Part, number, num, word}
+use Rattle.meaning.specs.Bytes.{Part, num, word}
 use Rattle.meaning.specs.Names.{«MQCFT_GROUP»}
 use Rattle.meaning.specs.Answer.{Result, accepted}
 use Rattle.meaning.specs.Structure.{Row, structureAt}
 use Rattle.meaning.specs.Walk.{Walked, walked, walk}
-use Rattle.meaning.specs.Listing.{rowLine, rowLines}
+use Rattle.meaning.specs.Message.{headerType, command, parameterCount}
+use Rattle.meaning.specs.Listing.{blank, newline, column, headerLine, rowLine, rowLines, endLine, listingText, refusalLine}
 use Rattle.meaning.proofs.Structures.{Judged, judge-accepted, RowAt, row-at}
 use Rattle.meaning.proofs.Walks.{Walks, none, more, walks-le}
-use Rattle.meaning.proofs.Decimals.{rowLine-most}
+use Rattle.meaning.proofs.Decimals.{column-ten, rowLine-most}
 
 -- only a group has members, as many as its field at 12 says, and no group is deeper than 8
 pub record Inner (s : Part) (p d : ℕ) (r : Row) : Type 0 where
@@ -55,39 +56,30 @@ pub rowLines-none : rowLines [] ≡ []
 unfolding rowLines
 rowLines-none = refl
 
--- a number in bytes is below 2 ^ 32
-pub number-below : (s : List ℕ) (at : ℕ) → ((i : ℕ) → getD s i 0 < 256) → number s at < 4294967296
-unfolding number
-number-below s at h = omega (arith, h at, h (at + 1), h (at + 2), h (at + 3))
-
 -- where there are no members, nothing follows inside
 pub walks-none : {s : Part} {p d n : ℕ} {rows : List Row} {q : ℕ} → Walks s p d n rows q → n ≡ 0 → (rows ≡ []) × (q ≡ p)
 walks-none none e = (refl, refl)
 walks-none (more t w₁ w₂) e = absurd (omega arith)
 
--- L bytes of text for the bytes from p to q
+-- l bytes of text for the bytes from p to q
 abbrev Short : ℕ → ℕ → ℕ → Type 0
 Short l p q = 4 * l + 7 * p ≤ 7 * q
 
-row-short : (s : Part) (p d : ℕ) (r : Row) → ((i : ℕ) → getD (s .bytes) i 0 < 256) → structureAt s p d ≡ accepted r → d ≤ 9 → p + r .size ≤ 65536
-    → Short (length (rowLine r)) p (p + r .size)
-row-short s p d r b t h f =
+row-short : (s : Part) (p d : ℕ) (r : Row) → structureAt s p d ≡ accepted r → d ≤ 9 → p + r .size ≤ 65536 → Short (length (rowLine r)) p (p + r .size)
+row-short s p d r t h f =
     let g = row-at s p d r t in
     let l : length (rowLine r) ≤ 28 =
-    rowLine-most r (omega (arith, g .at-depth)) (omega (arith, g .at-place)) (omega (arith, g .at-type))
-    (omega (arith, g .at-parameter, number-below (s .bytes) (p + 8) b)) (omega arith)
-    in
+    rowLine-most r (omega (arith, g .at-depth)) (omega (arith, g .at-place)) (omega (arith, g .at-type)) (omega arith) in
     omega (arith, g .at-least)
 
-pub lines-short : {s : Part} {p d n : ℕ} {rows : List Row} {q : ℕ} → Walks s p d n rows q → ((i : ℕ) → getD (s .bytes) i 0 < 256) → d ≤ 9 → q ≤ 65536
-    → Short (length (rowLines rows)) p q
-lines-short {s} none b h f = rw rowLines-none (omega arith)
-lines-short {s} (more {p} {d} {n} {p₁} {q} {r} {rs₁} {rs₂} t w₁ w₂) b h f =
+pub lines-short : {s : Part} {p d n : ℕ} {rows : List Row} {q : ℕ} → Walks s p d n rows q → d ≤ 9 → q ≤ 65536 → Short (length (rowLines rows)) p q
+lines-short {s} none h f = rw rowLines-none (omega arith)
+lines-short {s} (more {p} {d} {n} {p₁} {q} {r} {rs₁} {rs₂} t w₁ w₂) h f =
     let l₁ = walks-le w₁ in
     let l₂ = walks-le w₂ in
-    let one = row-short s p d r b t h (omega arith) in
-    let two : Short (length (rowLines rs₁)) (p + r .size) p₁ = inside (λ k. lines-short w₁ b k (omega arith)) (eqb (num s p) 20) refl in
-    let three = lines-short w₂ b h f in
+    let one = row-short s p d r t h (omega arith) in
+    let two : Short (length (rowLines rs₁)) (p + r .size) p₁ = inside (λ k. lines-short w₁ k (omega arith)) (eqb (num s p) 20) refl in
+    let three = lines-short w₂ h f in
     rw (rowLines-more, rowLines-append, length-append, length-append) (omega arith)
   where
     inside : (suc d ≤ 9 → Short (length (rowLines rs₁)) (p + r .size) p₁) → (x : Bool) → eqb (num s p) 20 ≡ x → Short (length (rowLines rs₁)) (p + r .size) p₁
@@ -95,3 +87,29 @@ lines-short {s} (more {p} {d} {n} {p₁} {q} {r} {rs₁} {rs₂} t w₁ w₂) b 
     inside go false e =
         let z = walks-none w₁ ((inner-at s p d r t) .members ∙ rw e refl) in
         rw (z .0, z .1, rowLines-none) (omega arith)
+
+-- how many structures there are: in a message of 65,536 bytes at most 4,093
+pub rows-most : {s : Part} {p d n : ℕ} {rows : List Row} {q : ℕ} → Walks s p d n rows q → 16 * length rows + p ≤ q
+rows-most none = omega arith
+rows-most {s} (more {p} {d} {n} {p₁} {q} {r} {rs₁} {rs₂} t w₁ w₂) =
+    omega (arith, rows-most w₁, rows-most w₂, (row-at s p d r t) .at-least, length-append rs₁ rs₂)
+
+-- the whole listing of a walk from 36 on
+length-headerLine : (m : Part) (len : ℕ) → length (headerLine m len) ≤ 48
+unfolding headerLine
+length-headerLine m len =
+    simp length-append
+    (omega (arith, column-ten (headerType m) blank, column-ten (command m) blank, column-ten (parameterCount m) blank, column-ten len newline))
+
+length-endLine : (n : ℕ) → length (endLine n) ≤ 15
+unfolding endLine
+length-endLine n = rw length-append (omega (arith, column-ten n newline))
+
+pub refusalLine-most : (n p : ℕ) → length (refusalLine n p) ≤ 30
+unfolding refusalLine
+refusalLine-most n p = simp length-append (omega (arith, column-ten n blank, column-ten p newline))
+
+pub listing-most : (m : Part) (len n : ℕ) (rows : List Row) (q : ℕ) → Walks m 36 1 n rows q → q ≤ 65536 → length (listingText m len rows) ≤ 131072
+unfolding listingText
+listing-most m len n rows q w h =
+    simp length-append (omega (arith, length-headerLine m len, lines-short w (omega arith) h, length-endLine (length rows)))

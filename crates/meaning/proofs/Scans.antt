@@ -37,7 +37,7 @@ closed-accepted : (end : ℕ) (w : Walked) (rows : List Row) → closed end w �
 unfolding closed
 closed-accepted end w rows e = let a = unless-accepted (eqb (w .next) end) 5 (w .next) (accepted (w .rows)) rows e in (eqb-true (w .next) end (a .0), cc (a .1))
 
-rows-accepted : (m : Part) (rows : List Row) → rowsOf m ≡ accepted rows → walk m (firstPlace m) 1 (parameterCount m) ≡ walked rows (m .end)
+pub rows-accepted : (m : Part) (rows : List Row) → rowsOf m ≡ accepted rows → walk m (firstPlace m) 1 (parameterCount m) ≡ walked rows (m .end)
 unfolding rowsOf
 rows-accepted m rows e =
     let a = unless-accepted (headerOk m) 2 0 _ rows e in
