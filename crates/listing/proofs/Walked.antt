@@ -16,7 +16,8 @@ use Rattle.meaning.specs.Walk.{Walked, walked, walk}
 use Rattle.meaning.specs.Listing.{column, rowLine, rowLines}
 use Rattle.meaning.proofs.Structures.{RowAt, row-at}
 use Rattle.meaning.proofs.Walks.{Walks, none, more, walks, walk-of}
-use Rattle.meaning.proofs.Lines.{Inner, inner-at, walks-end, walks-none, rowLines-append, rowLines-more, rowLines-none}
+use Rattle.meaning.proofs.Members.{group-shallow}
+use Rattle.meaning.proofs.Lines.{members-at, walks-end, walks-none, rowLines-append, rowLines-more, rowLines-none}
 use Rattle.text.specs.Lines.{lineText}
 use Rattle.listing.specs.Rows.{whole, lineAt}
 
@@ -72,7 +73,7 @@ open-walks : {s : List ℕ} {p d n : ℕ} {rows : List Row} {q : ℕ} → Walks 
 open-walks none h f = absurd (omega arith)
 open-walks {s} (more {p} {d} {n} {p₁} {q} {r} {rs₁} {rs₂} t w₁ w₂) h f =
     let g = row-at (whole s) p d r t in
-    let i = inner-at (whole s) p d r t in
+    let i = members-at (whole s) p d r t in
     let z = walks-none w₂ (omega arith) in
     let e : rowLines (r ∷ (rs₁ ++ rs₂)) ≡ rowLine r ++ rowLines rs₁ =
     ap (λ (x : List Row). rowLines (r ∷ (rs₁ ++ x))) (z .0) ∙ ap (λ (x : List Row). rowLines (r ∷ x)) (append-nil rs₁) ∙ rowLines-more r rs₁
@@ -82,12 +83,12 @@ open-walks {s} (more {p} {d} {n} {p₁} {q} {r} {rs₁} {rs₂} t w₁ w₂) h f
       lines = e ∙ ap (λ (x : List ℕ). x ++ rowLines rs₁) (row-line s p d r g);
       least = omega (arith, g .at-least, g .at-size);
       fits = omega (arith, g .at-fits, g .at-size);
-      deep = i .deep;
+      deep = λ k. group-shallow (whole s) p d r t (sym (g .at-kind) ∙ k);
       group = λ k.
-          walk-as (whole s) (suc d) rs₁ (omega (arith, g .at-size)) (sym (add-one d)) (i .members ∙ ap (λ (x : Bool). cond x (number s (p + 12)) 0) (eq-eqb (number s p) 20 k)) (sym (z .1))
+          walk-as (whole s) (suc d) rs₁ (omega (arith, g .at-size)) (sym (add-one d)) (i ∙ ap (λ (x : Bool). cond x (number s (p + 12)) 0) (eq-eqb (number s p) 20 k)) (sym (z .1))
           (walk-of w₁ (walks-end w₁ (g .at-fits)));
       plain = λ k.
-          let v = walks-none w₁ (i .members ∙ ap (λ (x : Bool). cond x (number s (p + 12)) 0) (ne-eqb (number s p) 20 k)) in
+          let v = walks-none w₁ (i ∙ ap (λ (x : Bool). cond x (number s (p + 12)) 0) (ne-eqb (number s p) 20 k)) in
           (v .0, z .1 ∙ v .1 ∙ omega (arith, g .at-size));
     }
 

@@ -4,6 +4,9 @@ pub mod Tests
 pub mod Structures
 pub mod Walks
 pub mod Fuel
+pub mod Parts
+pub mod Tallies
+pub mod Members
 pub mod Joins
 pub mod Decimals
 pub mod Lines

@@ -2,39 +2,31 @@
 -- listing. Each structure has 16 bytes or more and a line of 28 bytes or less: 4 * 28 is 7 * 16.
 -- Assumes nothing.
 use mathlib.Core.Path.{_≡_, refl, sym, ap, _∙_}
-use mathlib.Core.Bool.{Bool, true, false, cond, _&&_}
-use mathlib.Core.Logic.{_⊎_, inl, inr}
+use mathlib.Core.Bool.{true, cond}
 use mathlib.Core.List.{List, [], _∷_, _++_, append-assoc}
-use Prim.Native.Nat.{ℕ, zero, suc, _+_, _*_, _≤_, _<_}
+use Prim.Native.Nat.{ℕ, zero, suc, _+_, _*_, _≤_}
 use native.Mathlib.Omega.{arith}
 use lib.ListN.{length, length-append}
-use lib.Dec.{leb, ltb, eqb}
-use borrow.Author.Tests.{ltb-false, eqb-true, eqb-false, eq-eqb, le-leb}
+use lib.Dec.{leb, eqb}
+use borrow.Author.Tests.{le-leb}
 use Rattle.meaning.specs.Bytes.{Part, num, word}
 use Rattle.meaning.specs.Names.{«MQCFT_GROUP»}
-use Rattle.meaning.specs.Answer.{Result, accepted}
+use Rattle.meaning.specs.Answer.{accepted}
 use Rattle.meaning.specs.Structure.{Row, structureAt}
-use Rattle.meaning.specs.Walk.{Walked, walked, walk}
 use Rattle.meaning.specs.Message.{headerType, command, parameterCount}
 use Rattle.meaning.specs.Listing.{blank, newline, column, headerLine, rowLine, rowLines, endLine, listingText, refusalLine}
-use Rattle.meaning.proofs.Structures.{Judged, judge-accepted, RowAt, row-at}
+use Rattle.meaning.proofs.Structures.{judge-accepted, row-at}
+use Rattle.meaning.proofs.Members.{members-shallow}
 use Rattle.meaning.proofs.Walks.{Walks, none, more, walks-le}
 use Rattle.meaning.proofs.Decimals.{column-ten, rowLine-most}
 
--- only a group has members, as many as its field at 12 says, and no group is deeper than 8
-pub record Inner (s : Part) (p d : ℕ) (r : Row) : Type 0 where
-  pub members : r .members ≡ cond (eqb (num s p) «MQCFT_GROUP») (num s (p + 12)) 0
-  pub deep : num s p ≡ «MQCFT_GROUP» → d ≤ 8
-
-pub inner-at : (s : Part) (p d : ℕ) (r : Row) → structureAt s p d ≡ accepted r → Inner s p d r
+-- a group has as many members as its field at 12 says, any other structure none
+pub members-at : (s : Part) (p d : ℕ) (r : Row) → structureAt s p d ≡ accepted r → r .members ≡ cond (eqb (num s p) «MQCFT_GROUP») (num s (p + 12)) 0
 unfolding structureAt word
-inner-at s p d r e =
+members-at s p d r e =
     let g = judge-accepted (s .end) p d (num s p) (num s (p + 4)) _ _ _ _ r e in
     let l : leb (p + 12 + 4) (p + num s (p + 4)) ≡ true = le-leb (p + 12 + 4) (p + num s (p + 4)) (omega (arith, g .least)) in
-    record {
-      members = sym (ap (λ (x : Row). x .members) (g .row)) ∙ rw l refl;
-      deep = λ k. ltb-false 8 d (rw (eq-eqb (num s p) 20 k) at (g .shallow));
-    }
+    sym (ap (λ (x : Row). x .members) (g .row)) ∙ rw l refl
 
 -- a walk ends at or before the part's end
 pub walks-end : {s : Part} {p d n : ℕ} {rows : List Row} {q : ℕ} → Walks s p d n rows q → p ≤ s .end → q ≤ s .end
@@ -78,21 +70,13 @@ lines-short {s} (more {p} {d} {n} {p₁} {q} {r} {rs₁} {rs₂} t w₁ w₂) h 
     let l₁ = walks-le w₁ in
     let l₂ = walks-le w₂ in
     let one = row-short s p d r t h (omega arith) in
-    let two : Short (length (rowLines rs₁)) (p + r .size) p₁ = inside (λ k. lines-short w₁ k (omega arith)) (eqb (num s p) 20) refl in
+    let two : Short (length (rowLines rs₁)) (p + r .size) p₁ = inside (r .members) refl (λ k. lines-short w₁ k (omega arith)) in
     let three = lines-short w₂ h f in
     rw (rowLines-more, rowLines-append, length-append, length-append) (omega arith)
   where
-    inside : (suc d ≤ 9 → Short (length (rowLines rs₁)) (p + r .size) p₁) → (x : Bool) → eqb (num s p) 20 ≡ x → Short (length (rowLines rs₁)) (p + r .size) p₁
-    inside go true e = go (omega (arith, (inner-at s p d r t) .deep (eqb-true _ _ e)))
-    inside go false e =
-        let z = walks-none w₁ ((inner-at s p d r t) .members ∙ rw e refl) in
-        rw (z .0, z .1, rowLines-none) (omega arith)
-
--- how many structures there are: in a message of 65,536 bytes at most 4,093
-pub rows-most : {s : Part} {p d n : ℕ} {rows : List Row} {q : ℕ} → Walks s p d n rows q → 16 * length rows + p ≤ q
-rows-most none = omega arith
-rows-most {s} (more {p} {d} {n} {p₁} {q} {r} {rs₁} {rs₂} t w₁ w₂) =
-    omega (arith, rows-most w₁, rows-most w₂, (row-at s p d r t) .at-least, length-append rs₁ rs₂)
+    inside : (m : ℕ) → r .members ≡ m → (suc d ≤ 9 → Short (length (rowLines rs₁)) (p + r .size) p₁) → Short (length (rowLines rs₁)) (p + r .size) p₁
+    inside (suc m) e go = go (omega (arith, members-shallow s p d r t (omega arith)))
+    inside zero e go = let z = walks-none w₁ e in rw (z .0, z .1, rowLines-none) (omega arith)
 
 -- the whole listing of a walk from 36 on
 length-headerLine : (m : Part) (len : ℕ) → length (headerLine m len) ≤ 48
