@@ -1,3 +1,4 @@
 pub mod Walked
 pub mod Turns
 pub mod Listings
+pub mod Entries

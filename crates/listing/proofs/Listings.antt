@@ -13,7 +13,7 @@ use Rattle.meaning.specs.Message.{rowsOf}
 use Rattle.meaning.specs.Listing.{headerLine, rowLines, endLine, listingText}
 use Rattle.meaning.proofs.Walks.{walks}
 use Rattle.meaning.proofs.Lines.{listing-most}
-use Rattle.meaning.proofs.Scans.{rows-accepted}
+use Rattle.meaning.proofs.Outcomes.{rows-accepted}
 use Rattle.text.specs.Wrote.{Room, Wrote}
 use Rattle.text.specs.Lines.{headerText}
 use Rattle.text.proofs.Laws.{front, behind, then}

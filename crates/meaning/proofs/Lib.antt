@@ -10,4 +10,4 @@ pub mod Members
 pub mod Joins
 pub mod Decimals
 pub mod Lines
-pub mod Scans
+pub mod Outcomes

@@ -1,4 +1,4 @@
--- Scanned messages: what an accepted scan tells, and that a refusal's place lies in the message.
+-- How a scan ends: what an accepted message is known to be, and that a refusal's place lies in the message.
 -- Assumes nothing.
 use mathlib.Core.Path.{_≡_, refl, sym, ap, _∙_}
 use mathlib.Core.Bool.{Bool, true, false, _&&_}
@@ -24,6 +24,7 @@ pub record Accepted (buf : List ℕ) (len : ℕ) (rows : List Row) : Type 0 wher
   pub inside : len ≤ length buf
   pub small : len ≤ 65536
   pub header : 36 ≤ len
+  pub sound : rowsOf (partOf buf len) ≡ accepted rows
   pub walks : Walks (partOf buf len) 36 1 (parameterCount (partOf buf len)) rows len
 
 length-accepted : (buf : List ℕ) (len : ℕ) → lengthOk buf len ≡ true → (len ≤ length buf) × (len ≤ 65536) × (36 ≤ len)
@@ -54,6 +55,7 @@ scan-accepted buf len rows e =
       inside = l .0;
       small = l .1;
       header = l .2;
+      sound = a .1;
       walks = walks (partOf buf len) 36 1 (parameterCount (partOf buf len)) rows len (rows-accepted (partOf buf len) rows (a .1));
     }
 
