@@ -39,27 +39,27 @@ module _ (buf : List ℕ) (len n : ℕ) (e : check buf len ≡ accepted n) where
   its = scan-accepted buf len its-rows its-scan
 
   pub inside : len ≤ length buf
-  inside = its .inside
+  inside = its .size .there
 
   as-whole : rowsOf (whole (take len buf)) ≡ accepted its-rows
-  as-whole = ap rowsOf (sym (part-whole buf len (its .inside))) ∙ its .sound
+  as-whole = ap rowsOf (sym (part-whole buf len (its .size .there))) ∙ its .sound
 
   pub list-checked : Checked (take len buf) n
   unfolding its-rows
   list-checked =
-      let l : length (take len buf) ≡ len = length-take-le len buf (its .inside) in
+      let l : length (take len buf) ≡ len = length-take-le len buf (its .size .there) in
       record {
         rows = its-rows;
         sound = as-whole;
-        header = omega (arith, its .header);
-        small = omega (arith, its .small);
+        header = omega (arith, its .size .least);
+        small = omega (arith, its .size .most);
         counted = sym ((check-accepted buf len n e) .2);
       }
 
   same-text : textOf (take len buf) (rowsOf (whole (take len buf))) ≡ listingText (partOf buf len) len its-rows
   same-text =
       ap (textOf (take len buf)) as-whole
-      ∙ ap (λ (x : Part). listingText x (x .end) its-rows) (sym (part-whole buf len (its .inside)))
+      ∙ ap (λ (x : Part). listingText x (x .end) its-rows) (sym (part-whole buf len (its .size .there)))
 
   pub list-sound : (out after : List ℕ) (r : ℕ) → Wrote out 0 (textOf (take len buf) (rowsOf (whole (take len buf)))) after r → Lists buf len out after (Text r)
   list-sound out after r w =

@@ -7,6 +7,7 @@ pub mod Fuel
 pub mod Parts
 pub mod Tallies
 pub mod Members
+pub mod Scans
 pub mod Joins
 pub mod Decimals
 pub mod Lines

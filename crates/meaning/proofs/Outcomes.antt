@@ -18,21 +18,13 @@ use Rattle.meaning.specs.Message.{headerOk, lengthOk, partOf, parameterC
 use Rattle.meaning.proofs.Tests.{clash, and-true, unless-accepted, then-accepted}
 use Rattle.meaning.proofs.Structures.{row-at}
 use Rattle.meaning.proofs.Walks.{Walks, walks, walks-fuel}
+use Rattle.meaning.proofs.Scans.{Sized, sized}
 use Rattle.meaning.proofs.Lines.{walks-end}
 
 pub record Accepted (buf : List ℕ) (len : ℕ) (rows : List Row) : Type 0 where
-  pub inside : len ≤ length buf
-  pub small : len ≤ 65536
-  pub header : 36 ≤ len
+  pub size : Sized buf len
   pub sound : rowsOf (partOf buf len) ≡ accepted rows
   pub walks : Walks (partOf buf len) 36 1 (parameterCount (partOf buf len)) rows len
-
-length-accepted : (buf : List ℕ) (len : ℕ) → lengthOk buf len ≡ true → (len ≤ length buf) × (len ≤ 65536) × (36 ≤ len)
-unfolding lengthOk
-length-accepted buf len e =
-    let a = and-true (leb len (length buf)) _ e in
-    let b = and-true (leb len 65536) (leb 36 len) (a .1) in
-    (leb-true len (length buf) (a .0), leb-true len 65536 (b .0), leb-true 36 len (b .1))
 
 closed-accepted : (end : ℕ) (w : Walked) (rows : List Row) → closed end w ≡ accepted rows → (w .next ≡ end) × (w .rows ≡ rows)
 unfolding closed
@@ -50,11 +42,8 @@ pub scan-accepted : (buf : List ℕ) (len : ℕ) (rows : List Row) → scan buf 
 unfolding scan
 scan-accepted buf len rows e =
     let a = unless-accepted (lengthOk buf len) 1 0 (rowsOf (partOf buf len)) rows e in
-    let l = length-accepted buf len (a .0) in
     record {
-      inside = l .0;
-      small = l .1;
-      header = l .2;
+      size = sized buf len (a .0);
       sound = a .1;
       walks = walks (partOf buf len) 36 1 (parameterCount (partOf buf len)) rows len (rows-accepted (partOf buf len) rows (a .1));
     }
@@ -159,5 +148,5 @@ scan-refused buf len n q e = go (lengthOk buf len) refl e
     go : (b : Bool) → lengthOk buf len ≡ b → unless b (refused 1 0) (rowsOf (partOf buf len)) ≡ refused n q → q ≤ 65536
     go false f e = let z : q ≡ 0 = cc in omega arith
     go true f e =
-        let l = length-accepted buf len f in
-        omega (arith, rows-refused (partOf buf len) n q (l .2) e)
+        let l = sized buf len f in
+        omega (arith, l .most, rows-refused (partOf buf len) n q (l .least) e)
