@@ -1,6 +1,7 @@
 // The listing of a message as text.
 mod rows;
 mod whole;
+
 use answers::Refusal;
 use pcf::Checked;
 use pcf::check;

@@ -1,46 +1,34 @@
+-- `list` meets its contract: what it writes and answers is what the check has shown. Assumes nothing.
+use mathlib.Core.Path.{sym, ap, _∙_}
+use native.Mathlib.Omega.{arith}
 use borrow.Author.Needs.{needs}
+use lib.Seq.{length-take-le}
+use Rattle.pcf.specs.Messages.{checkedOf}
+use Rattle.listing.proofs.Entries.{inside, list-checked, list-sound, list-refused}
 use Rattle.listing.proofs.list.Statement.{statement}
 use Rattle.listing.proofs.list.Tie as tie
-use Rattle.listing.proofs.list.Reads as reads
-use Rattle.listing.proofs.list.Lts as lts
-use Rattle.listing.proofs.whole.put_listing.Reads as put-listing-reads
-use Rattle.pcf.proofs.check.Reads as check-reads
 
--- src/lib.rt:26:9
-check-requires : tie.Need-check-requires
-check-requires c κs = search needs
-
--- src/lib.rt:28:26
-enum-known-found : tie.Need-enum-known-found
-enum-known-found c = search needs
-
--- src/lib.rt:29:24
-enum-known-found-2 : tie.Need-enum-known-found-2
-enum-known-found-2 c = search needs
-
--- src/lib.rt:29:59
 slice-aggregate-put-listing : tie.Need-slice-aggregate-put-listing
-slice-aggregate-put-listing c = ?
+slice-aggregate-put-listing c =
+    sym (length-take-le _ _ (inside _ _ _ (sym (c .before .before .before .before .check .ensures) ∙ ap checkedOf (c .before .before .found2 .given .1))))
 
--- src/lib.rt:29:47
 put-listing-requires : tie.Need-put-listing-requires
-put-listing-requires c κs = ?
+put-listing-requires c κs = (list-checked _ _ _ (sym (c .before .before .before .before .before .check .ensures) ∙ ap checkedOf (c .before .before .before .found2 .given .1)), omega arith)
 
--- src/lib.rt:23:1
 returns : tie.Need-returns
-returns c = ?
+returns c = list-refused _ _ _ _ (sym (c .before .before .before .check .ensures) ∙ ap checkedOf (c .before .found .given .1))
 
--- src/lib.rt:23:1
 returns-2 : tie.Need-returns-2
-returns-2 c = ?
+returns-2 c =
+    list-sound _ _ _ (sym (c .before .before .before .before .before .before .check .ensures) ∙ ap checkedOf (c .before .before .before .before .found2 .given .1)) _ _ _ (c .put-listing .ensures)
 
 pub list-spec : {M : Type 1} → statement M
 list-spec =
     tie.close
     (tie.spec
-    check-requires
-    enum-known-found
-    enum-known-found-2
+    (λ c κs. search needs)
+    (λ c. search needs)
+    (λ c. search needs)
     slice-aggregate-put-listing
     put-listing-requires
     returns

@@ -1,42 +1,19 @@
+-- `print` meets its contract, for every input. Assumes nothing.
+use mathlib.Core.Path.{subst}
 use borrow.Author.Needs.{needs}
+use Rattle.listing.proofs.Entries.{print-listed, refused-place, print-refused}
 use Rattle.listing.proofs.print.Statement.{statement}
 use Rattle.listing.proofs.print.Tie as tie
-use Rattle.listing.proofs.print.Reads as reads
-use Rattle.listing.proofs.print.Lts as lts
-use Rattle.listing.proofs.list.Reads as list-reads
-use Rattle.listing.proofs.refused_line.Reads as refused-line-reads
 
--- src/lib.rt:45:9
-list-requires : tie.Need-list-requires
-list-requires c κs = search needs
-
--- src/lib.rt:47:22
-enum-known-listed : tie.Need-enum-known-listed
-enum-known-listed c = search needs
-
--- src/lib.rt:48:25
-enum-known-listed-2 : tie.Need-enum-known-listed-2
-enum-known-listed-2 c = search needs
-
--- src/lib.rt:48:31
 refused-line-requires : tie.Need-refused-line-requires
-refused-line-requires c κs = ?
+refused-line-requires c κs = refused-place _ _ _ _ (rw (c .before .before .listed2 .given .1) at (c .before .before .before .before .list .ensures))
 
--- src/lib.rt:42:1
 returns : tie.Need-returns
-returns c = ?
+returns c = print-listed _ _ _ _ (rw (c .before .listed .given .1) at (c .before .before .before .list .ensures))
 
--- src/lib.rt:42:1
 returns-2 : tie.Need-returns-2
-returns-2 c = ?
+returns-2 c = print-refused _ _ _ _ (rw (c .before .before .before .listed2 .given .1) at (c .before .before .before .before .before .list .ensures)) _ _ (c .refused-line .ensures)
 
 pub print-spec : {M : Type 1} → statement M
 print-spec =
-    tie.close
-    (tie.spec
-    list-requires
-    enum-known-listed
-    enum-known-listed-2
-    refused-line-requires
-    returns
-    returns-2)
+    tie.close (tie.spec (λ c κs. search needs) (λ c. search needs) (λ c. search needs) refused-line-requires returns returns-2)
