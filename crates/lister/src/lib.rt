@@ -1,5 +1,6 @@
 // The listing program, for each `main` that has a stored run of it.
 const STDIN: i32 = 0;
+
 const STDOUT: i32 = 1;
 
 // Reads standard input and writes its listing, or the line of a refusal, to standard output. A message has at most 65,536

@@ -1,11 +1,11 @@
 -- The entries, over plain lists and numbers. Assumes nothing.
 use mathlib.Core.Path.{_≡_, refl, sym, ap, _∙_, subst}
-use mathlib.Core.List.{List, [], _∷_, _++_}
+use mathlib.Core.List.{List, _++_}
 use Prim.Native.Nat.{ℕ, _+_, _≤_, _<_}
 use native.Mathlib.Nat.{zero-add}
 use native.Mathlib.Omega.{arith}
 use lib.ListN.{length, take, drop, length-append}
-use lib.Seq.{length-take-le, take-append-seam, take-at}
+use lib.Seq.{length-take-le, take-at}
 use Rattle.meaning.specs.Bytes.{Part, splice}
 use Rattle.meaning.specs.Answer.{Result, accepted, refused, andThen}
 use Rattle.meaning.specs.Structure.{Row}
@@ -13,13 +13,12 @@ use Rattle.meaning.specs.Message.{partOf, rowsOf, scan, check}
 use Rattle.meaning.specs.Listing.{listingText, refusalLine, printed, listing}
 use Rattle.meaning.proofs.Tests.{clash}
 use Rattle.meaning.proofs.Outcomes.{Accepted, scan-accepted, scan-refused, check-accepted, check-refused}
-use Rattle.text.specs.Wrote.{Room, Wrote}
+use Rattle.text.specs.Wrote.{Wrote}
 use Rattle.answers.specs.Refusals.{numberOf, placeOf, refusal}
 use Rattle.answers.specs.declared.Refusal.{Refusal}
 use Rattle.listing.specs.Rows.{whole}
 use Rattle.listing.specs.Text.{textOf, Checked}
 use Rattle.listing.specs.Entries.{filled, Lists, Prints}
-use Rattle.listing.specs.declared.Listed.{Listed}
 use Rattle.listing.specs.declared.Listed.the-variants.{Text, Refused}
 
 -- the message as a slice of its own

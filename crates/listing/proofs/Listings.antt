@@ -1,14 +1,12 @@
 -- The header line, the rows and the last line of a message that was checked, over plain lists and numbers.
 -- Assumes nothing.
-use mathlib.Core.Path.{_≡_, refl, sym, ap, _∙_, subst}
-use mathlib.Core.List.{List, [], _∷_, _++_}
+use mathlib.Core.Path.{_≡_, refl, sym, ap, _∙_}
+use mathlib.Core.List.{List, _++_}
 use Prim.Native.Nat.{ℕ, _+_, _≤_}
 use native.Mathlib.Omega.{arith}
 use lib.ListN.{length}
-use Rattle.meaning.specs.Bytes.{Part, number}
-use Rattle.meaning.specs.Answer.{Result, accepted}
-use Rattle.meaning.specs.Structure.{Row}
-use Rattle.meaning.specs.Walk.{Walked, walked, walk}
+use Rattle.meaning.specs.Bytes.{number}
+use Rattle.meaning.specs.Walk.{walked, walk}
 use Rattle.meaning.specs.Message.{rowsOf}
 use Rattle.meaning.specs.Listing.{headerLine, rowLines, endLine, listingText}
 use Rattle.meaning.proofs.Walks.{walks}

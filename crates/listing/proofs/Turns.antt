@@ -1,12 +1,11 @@
 -- The turns of the code that writes the lines of a walk, each over plain lists and numbers. Assumes nothing.
 use mathlib.Core.Path.{_≡_, refl, sym, ap, _∙_, subst}
-use mathlib.Core.List.{List, [], _∷_, _++_, append-nil}
+use mathlib.Core.List.{List, [], _++_, append-nil}
 use Prim.Native.Nat.{ℕ, _+_, _-_, _≤_, _<_}
 use native.Mathlib.Omega.{arith}
 use lib.ListN.{length}
-use Rattle.meaning.specs.Bytes.{Part, number}
-use Rattle.meaning.specs.Answer.{Result, accepted}
-use Rattle.meaning.specs.Structure.{Row}
+use Rattle.meaning.specs.Bytes.{number}
+use Rattle.meaning.specs.Answer.{Result}
 use Rattle.meaning.specs.Walk.{Walked, walked, walk}
 use Rattle.meaning.specs.Listing.{rowLines}
 use Rattle.meaning.proofs.Fuel.{walk-zero}

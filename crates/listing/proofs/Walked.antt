@@ -1,23 +1,21 @@
 -- What a sound walk tells the code that follows it: one structure, all that is inside it, and what comes behind.
 -- Assumes nothing.
-use mathlib.Core.Path.{_≡_, refl, sym, ap, _∙_, subst}
-use mathlib.Core.Bool.{Bool, true, false, cond}
-use mathlib.Core.List.{List, [], _∷_, _++_, append-assoc, append-nil}
-use Prim.Native.Nat.{ℕ, zero, suc, _+_, _-_, _≤_, _<_}
+use mathlib.Core.Path.{_≡_, refl, sym, ap, _∙_}
+use mathlib.Core.Bool.{Bool, cond}
+use mathlib.Core.List.{List, [], _∷_, _++_, append-nil}
+use Prim.Native.Nat.{ℕ, suc, _+_, _-_, _≤_, _<_}
 use native.Mathlib.Numerals.{add-one}
 use native.Mathlib.Omega.{arith}
 use lib.ListN.{length}
-use lib.Dec.{eqb}
 use borrow.Author.Tests.{eq-eqb, ne-eqb}
-use Rattle.meaning.specs.Bytes.{Part, number, num}
-use Rattle.meaning.specs.Answer.{Result, accepted}
-use Rattle.meaning.specs.Structure.{Row, structureAt}
-use Rattle.meaning.specs.Walk.{Walked, walked, walk}
-use Rattle.meaning.specs.Listing.{column, rowLine, rowLines}
+use Rattle.meaning.specs.Bytes.{Part, number}
+use Rattle.meaning.specs.Structure.{Row}
+use Rattle.meaning.specs.Walk.{walked, walk}
+use Rattle.meaning.specs.Listing.{rowLine, rowLines}
 use Rattle.meaning.proofs.Structures.{RowAt, row-at}
 use Rattle.meaning.proofs.Walks.{Walks, none, more, walks, walk-of}
 use Rattle.meaning.proofs.Members.{group-shallow}
-use Rattle.meaning.proofs.Lines.{members-at, walks-end, walks-none, rowLines-append, rowLines-more, rowLines-none}
+use Rattle.meaning.proofs.Lines.{members-at, walks-end, walks-none, rowLines-append, rowLines-more}
 use Rattle.text.specs.Lines.{lineText}
 use Rattle.listing.specs.Rows.{whole, lineAt}
 

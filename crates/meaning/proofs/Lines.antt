@@ -14,7 +14,7 @@ use Rattle.meaning.specs.Names.{«MQCFT_GROUP»}
 use Rattle.meaning.specs.Answer.{accepted}
 use Rattle.meaning.specs.Structure.{Row, structureAt}
 use Rattle.meaning.specs.Message.{headerType, command, parameterCount}
-use Rattle.meaning.specs.Listing.{blank, newline, column, headerLine, rowLine, rowLines, endLine, listingText, refusalLine}
+use Rattle.meaning.specs.Listing.{blank, newline, headerLine, rowLine, rowLines, endLine, listingText, refusalLine}
 use Rattle.meaning.proofs.Structures.{judge-accepted, row-at}
 use Rattle.meaning.proofs.Members.{members-shallow}
 use Rattle.meaning.proofs.Walks.{Walks, none, more, walks-le}

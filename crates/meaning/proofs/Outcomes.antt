@@ -1,21 +1,20 @@
 -- How a scan ends: what an accepted message is known to be, and that a refusal's place lies in the message.
 -- Assumes nothing.
-use mathlib.Core.Path.{_≡_, refl, sym, ap, _∙_}
+use mathlib.Core.Path.{_≡_, refl, ap, _∙_}
 use mathlib.Core.Bool.{Bool, true, false, _&&_}
 use mathlib.Core.Logic.{_⊎_, inl, inr}
-use mathlib.Core.List.{List, [], _∷_, _++_}
-use Prim.Native.Nat.{ℕ, zero, suc, _+_, _%_, _≤_, _<_}
+use mathlib.Core.List.{List, _++_}
+use Prim.Native.Nat.{ℕ, zero, suc, _+_, _%_, _≤_}
 use native.Mathlib.Omega.{arith}
 use lib.ListN.{length}
 use lib.Dec.{leb, eqb, ltb}
-use borrow.Author.Tests.{leb-true, eqb-true}
-use Rattle.meaning.specs.Bytes.{Part, num, word}
-use Rattle.meaning.specs.Names.{badStructure, tooDeep}
+use borrow.Author.Tests.{eqb-true}
+use Rattle.meaning.specs.Bytes.{Part}
 use Rattle.meaning.specs.Answer.{Result, accepted, refused, andThen, unless}
 use Rattle.meaning.specs.Structure.{Row, lengthRule, rowOf, judged, judge, structureAt}
 use Rattle.meaning.specs.Walk.{Walked, walked, followedBy, ahead, enter, walkFuel, walk}
 use Rattle.meaning.specs.Message.{headerOk, lengthOk, partOf, parameterCount, firstPlace, closed, rowsOf, scan, check}
-use Rattle.meaning.proofs.Tests.{clash, and-true, unless-accepted, then-accepted}
+use Rattle.meaning.proofs.Tests.{clash, unless-accepted, then-accepted}
 use Rattle.meaning.proofs.Structures.{row-at}
 use Rattle.meaning.proofs.Walks.{Walks, walks, walks-fuel}
 use Rattle.meaning.proofs.Scans.{Sized, sized}

@@ -1,5 +1,4 @@
 -- `print` meets its contract, for every input. Assumes nothing.
-use mathlib.Core.Path.{subst}
 use borrow.Author.Needs.{needs}
 use Rattle.listing.proofs.Entries.{print-listed, refused-place, print-refused}
 use Rattle.listing.proofs.print.Statement.{statement}
