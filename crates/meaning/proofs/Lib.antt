@@ -12,3 +12,4 @@ pub mod Joins
 pub mod Decimals
 pub mod Lines
 pub mod Outcomes
+pub mod Printed
