@@ -26,3 +26,8 @@ pub mod Parts
 pub mod Tallies
 pub mod Members
 pub mod Scans
+pub mod Joins
+pub mod Decimals
+pub mod Lines
+pub mod Outcomes
+pub mod Printed

@@ -1,0 +1,120 @@
+-- The entries, over plain lists and numbers. Assumes nothing.
+use mathlib.Core.Path.{_≡_, refl, sym, ap, _∙_, subst}
+use mathlib.Core.List.{List, _++_}
+use Prim.Native.Nat.{ℕ, _+_, _≤_, _<_}
+use native.Mathlib.Nat.{zero-add}
+use native.Mathlib.Omega.{arith}
+use lib.ListN.{length, take, drop, length-append}
+use lib.Seq.{length-take-le, take-at}
+use Rattle.meaning.specs.Bytes.{Part, splice}
+use Rattle.meaning.specs.Answer.{Result, accepted, refused, andThen}
+use Rattle.meaning.specs.Structure.{Row}
+use Rattle.meaning.specs.Message.{partOf, rowsOf, scan, check}
+use Rattle.meaning.specs.Listing.{listingText, refusalLine, printed, listing}
+use Rattle.meaning.proofs.Tests.{clash}
+use Rattle.meaning.proofs.Outcomes.{Accepted, scan-accepted, scan-refused, check-accepted, check-refused}
+use Rattle.text.specs.Wrote.{Wrote}
+use Rattle.answers.specs.Refusals.{numberOf, placeOf, refusal}
+use Rattle.answers.specs.declared.Refusal.{Refusal}
+use Rattle.listing.specs.Rows.{whole}
+use Rattle.listing.specs.Text.{textOf, Checked}
+use Rattle.listing.specs.Entries.{filled, Lists, Prints}
+use Rattle.listing.specs.declared.Listed.the-variants.{Text, Refused}
+
+-- the message as a slice of its own
+part-whole : (buf : List ℕ) (len : ℕ) → len ≤ length buf → partOf buf len ≡ whole (take len buf)
+part-whole buf len h = ap (λ (x : ℕ). record { bytes = take len buf; start = 0; end = x }) (sym (length-take-le len buf h))
+
+-- LIST. A message with n structures.
+module _ (buf : List ℕ) (len n : ℕ) (e : check buf len ≡ accepted n) where
+  its-rows : List Row
+  its-rows = (check-accepted buf len n e) .0
+
+  its-scan : scan buf len ≡ accepted its-rows
+  unfolding its-rows
+  its-scan = (check-accepted buf len n e) .1
+
+  its : Accepted buf len its-rows
+  its = scan-accepted buf len its-rows its-scan
+
+  pub inside : len ≤ length buf
+  inside = its .size .there
+
+  as-whole : rowsOf (whole (take len buf)) ≡ accepted its-rows
+  as-whole = ap rowsOf (sym (part-whole buf len (its .size .there))) ∙ its .sound
+
+  pub list-checked : Checked (take len buf) n
+  unfolding its-rows
+  list-checked =
+      let l : length (take len buf) ≡ len = length-take-le len buf (its .size .there) in
+      record {
+        rows = its-rows;
+        sound = as-whole;
+        header = omega (arith, its .size .least);
+        small = omega (arith, its .size .most);
+        counted = sym ((check-accepted buf len n e) .2);
+      }
+
+  same-text : textOf (take len buf) (rowsOf (whole (take len buf))) ≡ listingText (partOf buf len) len its-rows
+  same-text =
+      ap (textOf (take len buf)) as-whole
+      ∙ ap (λ (x : Part). listingText x (x .end) its-rows) (sym (part-whole buf len (its .size .there)))
+
+  pub list-sound : (out after : List ℕ) (r : ℕ) → Wrote out 0 (textOf (take len buf) (rowsOf (whole (take len buf)))) after r → Lists buf len out after (Text r)
+  list-sound out after r w =
+      record {
+        answer = rw its-scan (ap accepted (w .place ∙ zero-add _ ∙ ap length same-text));
+        bytes = rw its-scan (w .bytes ∙ ap (splice out 0) same-text);
+      }
+
+pub list-refused : (buf : List ℕ) (len : ℕ) (r : Refusal) (out : List ℕ) → check buf len ≡ refusal r → Lists buf len out out (Refused r)
+list-refused buf len r out e =
+    let s = check-refused buf len (numberOf r) (placeOf r) e in
+    record { answer = rw s refl; bytes = rw s refl }
+
+-- PRINT.
+prints : (input before after : List ℕ) (r : ℕ) → Wrote before 0 (listing input (length input)) after r → Prints input before after r
+unfolding splice
+prints input before after r w =
+    let t : List ℕ = listing input (length input) in
+    let n : r ≡ length t = w .place ∙ zero-add _ in
+    let s : after ≡ t ++ drop (0 + length t) before = w .bytes in
+    let l : r ≤ length after = omega (arith, ap length s, length-append t (drop (0 + length t) before)) in
+    record {
+      wrote = w;
+      text = ap (take r) s ∙ take-at t (drop (0 + length t) before) r (sym n);
+      within = l;
+      counted = sym (length-take-le r after l);
+    }
+
+-- what `list` leaves is what is printed, where it gives a text
+pub print-listed : (input before after : List ℕ) (n : ℕ) → Lists input (length input) before after (Text n) → Prints input before after n
+unfolding listing
+print-listed input before after n l = prints input before after n (go (scan input (length input)) (l .answer) (l .bytes))
+  where
+    go : (x : Result (List Row)) → _≡_ {A = Result ℕ} (accepted n) (andThen x (λ rows. accepted (length (listingText (partOf input (length input)) (length input) rows))))
+        → after ≡ filled before input (length input) x → Wrote before 0 (printed input (length input) x) after n
+    go (accepted rows) e f =
+        let g : n ≡ length (listingText (partOf input (length input)) (length input) rows) = cc in
+        record { bytes = f; place = g ∙ sym (zero-add _) }
+    go (refused k p) e f = absurd (clash (cc))
+
+-- where it refuses, it leaves the buffer, and the refusal is the scan's
+module _ (input before middle : List ℕ) (r : Refusal) (l : Lists input (length input) before middle (Refused r)) where
+  its-refusal : (scan input (length input) ≡ refused (numberOf r) (placeOf r)) × (middle ≡ before)
+  its-refusal = go (scan input (length input)) refl (l .answer) (l .bytes)
+    where
+      go : (x : Result (List Row)) → scan input (length input) ≡ x
+          → _≡_ {A = Result ℕ} (refused (numberOf r) (placeOf r)) (andThen x (λ rows. accepted (length (listingText (partOf input (length input)) (length input) rows))))
+          → middle ≡ filled before input (length input) x → (scan input (length input) ≡ refused (numberOf r) (placeOf r)) × (middle ≡ before)
+      go (accepted rows) s e f = absurd (clash (cc))
+      go (refused k p) s e f = (cc, f)
+
+  pub refused-place : placeOf r < 4294967296
+  refused-place = omega (arith, scan-refused input (length input) (numberOf r) (placeOf r) (its-refusal .0))
+
+  pub print-refused : (after : List ℕ) (n : ℕ) → Wrote middle 0 (refusalLine (numberOf r) (placeOf r)) after n → Prints input before after n
+  unfolding listing
+  print-refused after n w =
+      prints input before after n
+      (rw (its-refusal .0) (subst (λ (x : List ℕ). Wrote x 0 (refusalLine (numberOf r) (placeOf r)) after n) (its-refusal .1) w))

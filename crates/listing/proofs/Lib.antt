@@ -1,0 +1,4 @@
+pub mod Walked
+pub mod Turns
+pub mod Listings
+pub mod Entries

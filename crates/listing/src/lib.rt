@@ -1,0 +1,51 @@
+// The listing of a message as text.
+mod rows;
+mod whole;
+
+use answers::Refusal;
+use pcf::Checked;
+use pcf::check;
+use text::put_refusal;
+use whole::put_listing;
+ghost use Prim.Native.Nat.{_<_};
+ghost use Rattle.meaning.specs.Listing.{refusalLine};
+ghost use Rattle.answers.specs.Refusals.{numberOf, placeOf};
+ghost use Rattle.text.specs.Wrote.{Wrote};
+ghost use Rattle.listing.specs.Entries.{Lists, Prints};
+
+// What `list` answers: the text's length, or 1 to 5.
+pub enum Listed {
+    Text(usize),
+    Refused(Refusal),
+}
+
+// LIST: the listing of the message in the first `len` bytes, written from the buffer's first byte on. A message that is
+// refused leaves the buffer as it was, so the check comes first.
+pub fn list(msg: &[u8], len: usize, out: &mut [u8; 131072]) -> Listed
+    ensures { λ r. ⌜ Lists (now (msg .entry)) len (now (out .entry)) (now (out .exit)) r ⌝ }
+{
+    let found = check(msg, len);
+    match found {
+        Checked::Refused(r) => Listed::Refused(r),
+        Checked::Sound(count) => Listed::Text(put_listing(&msg[..len], count, out)),
+    }
+}
+
+// The line of a refusal, from the buffer's first byte on.
+fn refused_line(r: Refusal, out: &mut [u8; 131072]) -> usize
+    requires { ⌜ placeOf r < 4294967296 ⌝ }
+    ensures { λ n. ⌜ Wrote (now (out .entry)) 0 (refusalLine (numberOf r) (placeOf r)) (now (out .exit)) n ⌝ }
+{
+    put_refusal(out, 0, answers::number(r), answers::place(r) as u32)
+}
+
+// PRINT: all that the listing program writes for an input. The answer is the text's length.
+pub fn print(input: &[u8], out: &mut [u8; 131072]) -> usize
+    ensures { λ r. ⌜ Prints (now (input .entry)) (now (out .entry)) (now (out .exit)) r ⌝ }
+{
+    let listed = list(input, input.len(), out);
+    match listed {
+        Listed::Text(n) => n,
+        Listed::Refused(r) => refused_line(r, out),
+    }
+}

@@ -1,0 +1,151 @@
+-- How a scan ends: what an accepted message is known to be, and that a refusal's place lies in the message.
+-- Assumes nothing.
+use mathlib.Core.Path.{_≡_, refl, ap, _∙_}
+use mathlib.Core.Bool.{Bool, true, false, _&&_}
+use mathlib.Core.Logic.{_⊎_, inl, inr}
+use mathlib.Core.List.{List, _++_}
+use Prim.Native.Nat.{ℕ, zero, suc, _+_, _%_, _≤_}
+use native.Mathlib.Omega.{arith}
+use lib.ListN.{length}
+use lib.Dec.{leb, eqb, ltb}
+use borrow.Author.Tests.{eqb-true}
+use Rattle.meaning.specs.Bytes.{Part}
+use Rattle.meaning.specs.Answer.{Result, accepted, refused, andThen, unless}
+use Rattle.meaning.specs.Structure.{Row, lengthRule, rowOf, judged, judge, structureAt}
+use Rattle.meaning.specs.Walk.{Walked, walked, followedBy, ahead, enter, walkFuel, walk}
+use Rattle.meaning.specs.Message.{headerOk, lengthOk, partOf, parameterCount, firstPlace, closed, rowsOf, scan, check}
+use Rattle.meaning.proofs.Tests.{clash, unless-accepted, then-accepted}
+use Rattle.meaning.proofs.Structures.{row-at}
+use Rattle.meaning.proofs.Walks.{Walks, walks, walks-fuel}
+use Rattle.meaning.proofs.Scans.{Sized, sized}
+use Rattle.meaning.proofs.Lines.{walks-end}
+
+pub record Accepted (buf : List ℕ) (len : ℕ) (rows : List Row) : Type 0 where
+  pub size : Sized buf len
+  pub sound : rowsOf (partOf buf len) ≡ accepted rows
+  pub walks : Walks (partOf buf len) 36 1 (parameterCount (partOf buf len)) rows len
+
+closed-accepted : (end : ℕ) (w : Walked) (rows : List Row) → closed end w ≡ accepted rows → (w .next ≡ end) × (w .rows ≡ rows)
+unfolding closed
+closed-accepted end w rows e = let a = unless-accepted (eqb (w .next) end) 5 (w .next) (accepted (w .rows)) rows e in (eqb-true (w .next) end (a .0), cc (a .1))
+
+pub rows-accepted : (m : Part) (rows : List Row) → rowsOf m ≡ accepted rows → walk m (firstPlace m) 1 (parameterCount m) ≡ walked rows (m .end)
+unfolding rowsOf
+rows-accepted m rows e =
+    let a = unless-accepted (headerOk m) 2 0 _ rows e in
+    let b = then-accepted (walk m (firstPlace m) 1 (parameterCount m)) (closed (m .end)) rows (a .1) in
+    let c = closed-accepted (m .end) (b .0) rows (b .2) in
+    b .1 ∙ ap (λ (x : ℕ). walked (b .0 .rows) x) (c .0) ∙ ap (λ (x : List Row). walked x (m .end)) (c .1)
+
+pub scan-accepted : (buf : List ℕ) (len : ℕ) (rows : List Row) → scan buf len ≡ accepted rows → Accepted buf len rows
+unfolding scan
+scan-accepted buf len rows e =
+    let a = unless-accepted (lengthOk buf len) 1 0 (rowsOf (partOf buf len)) rows e in
+    record {
+      size = sized buf len (a .0);
+      sound = a .1;
+      walks = walks (partOf buf len) 36 1 (parameterCount (partOf buf len)) rows len (rows-accepted (partOf buf len) rows (a .1));
+    }
+
+-- the number of structures that the check gives
+pub check-accepted : (buf : List ℕ) (len n : ℕ) → check buf len ≡ accepted n → (rows : List Row) × (scan buf len ≡ accepted rows) × (length rows ≡ n)
+unfolding check
+check-accepted buf len n e = let a = then-accepted (scan buf len) _ n e in (a .0, a .1, cc (a .2))
+
+-- REFUSALS
+then-refused : {A B : Type 0} (r : Result A) (go : A → Result B) (n p : ℕ) → andThen r go ≡ refused n p
+    → (r ≡ refused n p) ⊎ ((x : A) × (r ≡ accepted x) × (go x ≡ refused n p))
+then-refused (accepted x) go n p e = inr (x, refl, e)
+then-refused (refused k q) go n p e = inl (cc)
+
+pub check-refused : (buf : List ℕ) (len n p : ℕ) → check buf len ≡ refused n p → scan buf len ≡ refused n p
+unfolding check
+check-refused buf len n p e = go (then-refused (scan buf len) _ n p e)
+  where
+    go : (scan buf len ≡ refused n p) ⊎ ((x : List Row) × (scan buf len ≡ accepted x) × (_≡_ {A = Result ℕ} (accepted (length x)) (refused n p))) → scan buf len ≡ refused n p
+    go (inl h) = h
+    go (inr h) = absurd (clash (cc (h .2)))
+
+judged-refused : (x y : Bool) (p : ℕ) (r : Row) (n q : ℕ) → judged x y p r ≡ refused n q → q ≡ p
+judged-refused true true p r n q e = cc
+judged-refused true false p r n q e = absurd (clash (cc))
+judged-refused false y p r n q e = cc
+
+judge-refused : (end p d t n k a b c m q : ℕ) → judge end p d t n k a b c ≡ refused m q → q ≡ p
+unfolding judge
+judge-refused end p d t n k a b c m q e =
+    judged-refused (leb (p + n) end && (eqb (n % 4) 0 && lengthRule t n a b c)) (eqb t 20 && ltb 8 d) p (rowOf p d t n k a) m q e
+
+structure-refused : (s : Part) (p d n q : ℕ) → structureAt s p d ≡ refused n q → q ≡ p
+unfolding structureAt
+structure-refused s p d n q e = judge-refused (s .end) p d _ _ _ _ _ _ n q e
+
+-- of two walks, one behind the other, the first is refused or the second
+followed-refused : (w : Result Walked) (go : ℕ → Result Walked) (n p : ℕ) → followedBy w go ≡ refused n p
+    → (w ≡ refused n p) ⊎ ((x : Walked) × (w ≡ walked (x .rows) (x .next)) × (go (x .next) ≡ refused n p))
+followed-refused (refused k q) go n p e = inl (cc)
+followed-refused (accepted x) go n p e = second (then-refused (go (x .next)) _ n p e)
+  where
+    second : (go (x .next) ≡ refused n p) ⊎ ((y : Walked) × (go (x .next) ≡ accepted y) × (_≡_ {A = Result Walked} (walked (x .rows ++ y .rows) (y .next)) (refused n p)))
+        → (_≡_ {A = Result Walked} (accepted x) (refused n p)) ⊎ ((x′ : Walked) × (_≡_ {A = Result Walked} (accepted x) (walked (x′ .rows) (x′ .next))) × (go (x′ .next) ≡ refused n p))
+    second (inl h) = inr (x, refl, h)
+    second (inr h) = absurd (clash (cc (h .2)))
+
+-- a row in front changes no refusal
+ahead-refused : (r : Row) (w : Result Walked) (n p : ℕ) → ahead r w ≡ refused n p → w ≡ refused n p
+ahead-refused r (refused k q) n p e = cc
+ahead-refused r (accepted x) n p e = absurd (clash (cc))
+
+-- a refusal's place is that of a structure, and so at most the part's end
+enter-refused : (f : ℕ) (s : Part) (p d n k q : ℕ) → p ≤ s .end → ((p d n k q : ℕ) → p ≤ s .end → walkFuel f s p d n ≡ refused k q → q ≤ s .end)
+    → (t : Result Row) → structureAt s p d ≡ t
+    → enter t (λ r. walkFuel f s (p + r .size) (suc d) (r .members)) (λ x. walkFuel f s x d n) ≡ refused k q → q ≤ s .end
+enter-refused f s p d n k q h ih (refused k′ q′) t e = let z : q′ ≡ q = cc in omega (arith, structure-refused s p d k′ q′ t)
+enter-refused f s p d n k q h ih (accepted r) t e =
+    part (followed-refused (walkFuel f s (p + r .size) (suc d) (r .members)) (λ x. walkFuel f s x d n) k q (ahead-refused r _ k q e))
+  where
+    inner : p + r .size ≤ s .end
+    inner = (row-at s p d r t) .at-fits
+
+    part : (walkFuel f s (p + r .size) (suc d) (r .members) ≡ refused k q)
+        ⊎ ((x : Walked) × (walkFuel f s (p + r .size) (suc d) (r .members) ≡ walked (x .rows) (x .next)) × (walkFuel f s (x .next) d n ≡ refused k q)) → q ≤ s .end
+    part (inl g) = ih (p + r .size) (suc d) (r .members) k q inner g
+    part (inr g) =
+        ih (g .0 .next) d n k q (walks-end (walks-fuel f s (p + r .size) (suc d) (r .members) (g .0 .rows) (g .0 .next) (g .1)) inner) (g .2)
+
+walk-refused : (f : ℕ) (s : Part) (p d n k q : ℕ) → p ≤ s .end → walkFuel f s p d n ≡ refused k q → q ≤ s .end
+unfolding walkFuel
+walk-refused zero s p d zero k q h e = absurd (clash (cc))
+walk-refused zero s p d (suc n) k q h e = let z : q ≡ p = cc in omega arith
+walk-refused (suc f) s p d zero k q h e = absurd (clash (cc))
+walk-refused (suc f) s p d (suc n) k q h e =
+    enter-refused f s p d n k q h (λ p d n k q h e. walk-refused f s p d n k q h e) (structureAt s p d) refl e
+
+rows-refused : (m : Part) (n q : ℕ) → firstPlace m ≤ m .end → rowsOf m ≡ refused n q → q ≤ m .end
+unfolding rowsOf walk closed
+rows-refused m n q h e = header (headerOk m) e
+  where
+    closing : (w : Walked) (b : Bool) → w .next ≤ m .end → unless b (refused 5 (w .next)) (accepted (w .rows)) ≡ refused n q → q ≤ m .end
+    closing w true l e = absurd (clash (cc))
+    closing w false l e = let z : q ≡ w .next = cc in omega arith
+
+    part : (walkFuel (m .end) m (firstPlace m) 1 (parameterCount m) ≡ refused n q)
+        ⊎ ((w : Walked) × (walkFuel (m .end) m (firstPlace m) 1 (parameterCount m) ≡ accepted w) × (closed (m .end) w ≡ refused n q)) → q ≤ m .end
+    part (inl g) = walk-refused (m .end) m (firstPlace m) 1 (parameterCount m) n q h g
+    part (inr g) =
+        closing (g .0) (eqb (g .0 .next) (m .end))
+        (walks-end (walks-fuel (m .end) m (firstPlace m) 1 (parameterCount m) (g .0 .rows) (g .0 .next) (g .1)) h) (g .2)
+
+    header : (b : Bool) → unless b (refused 2 0) (andThen (walkFuel (m .end) m (firstPlace m) 1 (parameterCount m)) (closed (m .end))) ≡ refused n q → q ≤ m .end
+    header false e = let z : q ≡ 0 = cc in omega arith
+    header true e = part (then-refused (walkFuel (m .end) m (firstPlace m) 1 (parameterCount m)) (closed (m .end)) n q e)
+
+pub scan-refused : (buf : List ℕ) (len n q : ℕ) → scan buf len ≡ refused n q → q ≤ 65536
+unfolding scan
+scan-refused buf len n q e = go (lengthOk buf len) refl e
+  where
+    go : (b : Bool) → lengthOk buf len ≡ b → unless b (refused 1 0) (rowsOf (partOf buf len)) ≡ refused n q → q ≤ 65536
+    go false f e = let z : q ≡ 0 = cc in omega arith
+    go true f e =
+        let l = sized buf len f in
+        omega (arith, l .most, rows-refused (partOf buf len) n q (l .least) e)

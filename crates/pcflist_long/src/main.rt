@@ -1,0 +1,4 @@
+// The listing program on one byte more than a message may have.
+fn main() {
+    lister::run();
+}
