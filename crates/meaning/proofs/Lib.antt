@@ -22,3 +22,6 @@ pub mod Tiling
 pub mod Cases
 pub mod Corners
 pub mod Trimmed
+pub mod Parts
+pub mod Tallies
+pub mod Members

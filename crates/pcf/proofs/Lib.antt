@@ -1,0 +1,6 @@
+mod Wide
+mod Lengths
+mod Soundness
+pub mod Counting
+mod Answers
+mod Turns

@@ -1,0 +1,104 @@
+// One structure of a message.
+use crate::table::length_kept;
+use crate::table::rule_of;
+use answers::Refusal;
+use wire::number_at;
+ghost use mathlib.Core.Path.{_≡_};
+ghost use mathlib.Core.Bool.{cond, _&&_};
+ghost use Prim.Native.Nat.{_-_, _≤_};
+ghost use lib.Dec.{eqb, ltb};
+ghost use lib.ListN.{length};
+ghost use Rattle.meaning.specs.Names.{«MQCFT_GROUP», mostDepth};
+ghost use Rattle.meaning.specs.Structure.{structureAt};
+ghost use Rattle.meaning.specs.Message.{partOf};
+ghost use Rattle.pcf.specs.Rules.{Fields};
+ghost use Rattle.pcf.specs.Rows.{soundIn, foundOf};
+
+// The type of a group.
+const MQCFT_GROUP: u32 = 20;
+
+// No group is deeper.
+const MOST_DEPTH: u32 = 8;
+
+// A structure: its depth, 1 at the top; its place; Type, Parameter and StrucLength; and how many structures follow inside
+// it: a group's ParameterCount, 0 for every other type.
+pub struct Row {
+    pub depth: u32,
+    pub place: usize,
+    pub kind: u32,
+    pub parameter: u32,
+    pub size: u32,
+    pub members: u32,
+}
+
+// What stands at a place: a sound structure, or 3 or 4.
+pub enum Found {
+    Structure(Row),
+    Refused(Refusal),
+}
+
+// The bytes from `place` to `end`, none if the place lies behind it.
+fn bytes_left(end: usize, place: usize) -> usize
+    ensures { λ r. ⌜ r ≡ end - place ⌝ }
+{
+    if place < end { end - place } else { 0 }
+}
+
+// The structure ends at or before `end`, and its length is a multiple of 4 and keeps its type's rule. No rule allows less
+// than 16 bytes, so that its fields up to `first`, the one at 12, are there.
+fn is_sound(s: &[u8], end: usize, place: usize, kind: u32, size: u32, first: u32) -> bool
+    requires { ⌜ Fields (now s) place end first ⌝ }
+    ensures { λ r. ⌜ r ≡ soundIn (partOf (now (s .entry)) end) place kind size ⌝ }
+{
+    if end < place + size as usize {
+        return false;
+    }
+    if size < 16 {
+        return false;
+    }
+    size % 4 == 0 && length_kept(s, place, size, first, rule_of(kind))
+}
+
+// A group may not be deeper than 8; other structures may.
+fn too_deep(kind: u32, depth: u32) -> bool
+    ensures { λ r. ⌜ r ≡ (eqb kind «MQCFT_GROUP» && ltb mostDepth depth) ⌝ }
+{
+    kind == MQCFT_GROUP && MOST_DEPTH < depth
+}
+
+// Only a group has members, as many as the field behind Parameter says.
+fn members_of(kind: u32, first: u32) -> u32
+    ensures { λ r. ⌜ r ≡ cond (eqb kind «MQCFT_GROUP») first 0 ⌝ }
+{
+    if kind == MQCFT_GROUP { first } else { 0 }
+}
+
+// The structure at `place`, of this depth, in a message that ends at `end`. Any place and depth may be asked for. A structure
+// that is not sound is 3, however deep.
+pub fn structure_at(s: &[u8], end: usize, place: usize, depth: u32) -> Found
+    requires { ⌜ end ≤ length (now s) ⌝ }
+    ensures { λ r. ⌜ foundOf r ≡ structureAt (partOf (now (s .entry)) end) place depth ⌝ }
+{
+    if bytes_left(end, place) < 16 {
+        return Found::Refused(Refusal::BadStructure(place));
+    }
+    let kind = number_at(s, place);
+    let size = number_at(s, place + 4);
+    let first = number_at(s, place + 12);
+    if is_sound(s, end, place, kind, size, first) {
+        if too_deep(kind, depth) {
+            Found::Refused(Refusal::TooDeep(place))
+        } else {
+            Found::Structure(Row {
+                depth,
+                place,
+                kind,
+                parameter: number_at(s, place + 8),
+                size,
+                members: members_of(kind, first),
+            })
+        }
+    } else {
+        Found::Refused(Refusal::BadStructure(place))
+    }
+}

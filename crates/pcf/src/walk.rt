@@ -1,0 +1,96 @@
+// The walk over structures and all that is inside them, which counts them by their types.
+use crate::structure::Found;
+use crate::structure::structure_at;
+use answers::Refusal;
+ghost use mathlib.Core.Path.{_≡_};
+ghost use Prim.Native.Nat.{_<_};
+ghost use lib.ListN.{getD, replicate};
+ghost use Rattle.meaning.specs.Message.{partOf, types};
+ghost use Rattle.meaning.specs.Walk.{walk};
+ghost use Rattle.answers.specs.Refusals.{refusal};
+ghost use Rattle.pcf.specs.Tallies.{raised, tallied, walkedOf, Walkable};
+
+// Where a walk ended: at the place behind the last structure, or at a fault.
+pub enum Ended {
+    Behind(usize),
+    Refused(Refusal),
+}
+
+// How a walk ended, and a count for each type, 0 to 26; no counts after a fault.
+pub struct Walked {
+    pub ended: Ended,
+    pub tally: [u32; 27],
+}
+
+// One more of the type.
+fn raise(tally: [u32; 27], kind: u32) -> [u32; 27]
+    requires { ⌜ (kind < 27) × (getD tally kind 0 < 65536) ⌝ }
+    ensures { λ r. ⌜ r ≡ raised tally kind ⌝ }
+{
+    let mut t = tally;
+    let k = kind as usize;
+    t[k] = t[k] + 1;
+    t
+}
+
+// A walk that met a fault.
+fn stopped(r: Refusal) -> Walked
+    ensures { λ w. ⌜ walkedOf w ≡ record { ended = refusal r; counts = replicate types 0 } ⌝ }
+{
+    Walked {
+        ended: Ended::Refused(r),
+        tally: [0u32; 27],
+    }
+}
+
+// Walks over `count` structures from `place` on, of this depth, in a message that ends at `end`, and over all that is inside
+// them. The counts go in, and come back raised at one place for each structure.
+pub fn siblings(
+    s: &[u8],
+    end: usize,
+    place: usize,
+    depth: u32,
+    count: u32,
+    tally: [u32; 27],
+) -> Walked
+    requires { ⌜ Walkable (now s) end place tally ⌝ }
+    ensures { λ r. ⌜ walkedOf r ≡ tallied tally (walk (partOf (now (s .entry)) end) place depth count) ⌝ }
+{
+    let mut at = place;
+    let mut left = count;
+    let mut t = tally;
+    while 0 < left {
+        let found = structure_at(s, end, at, depth);
+        match found {
+            Found::Refused(r) => {
+                return stopped(r);
+            }
+            Found::Structure(row) => {
+                let next = at + row.size as usize;
+                let more = raise(t, row.kind);
+                if row.members == 0 {
+                    at = next;
+                    t = more;
+                } else {
+                    // a group: its members come first
+                    let inner = siblings(s, end, next, depth + 1, row.members, more);
+                    let ended = inner.ended;
+                    match ended {
+                        Ended::Refused(r) => {
+                            return stopped(r);
+                        }
+                        Ended::Behind(behind) => {
+                            at = behind;
+                            t = inner.tally;
+                        }
+                    }
+                }
+            }
+        }
+        left = left - 1;
+    }
+    Walked {
+        ended: Ended::Behind(at),
+        tally: t,
+    }
+}
