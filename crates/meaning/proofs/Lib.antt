@@ -25,3 +25,4 @@ pub mod Trimmed
 pub mod Parts
 pub mod Tallies
 pub mod Members
+pub mod Scans

@@ -4,3 +4,5 @@ mod Soundness
 pub mod Counting
 mod Answers
 mod Turns
+mod Sums
+mod Closes

@@ -43,7 +43,7 @@ behind t r x (accepted y) =
     rw (raised-added t r, added-append 0 t (r ∷ []) (x .rows), added-append 0 t (r ∷ x .rows) (y .rows)) refl
 
 -- what is told of the walk w by what it came to
-told : (t : List ℕ) (w : Result Walked) (q : ℕ) (u : List ℕ) → came q u ≡ tallied t w
+pub told : (t : List ℕ) (w : Result Walked) (q : ℕ) (u : List ℕ) → came q u ≡ tallied t w
     → {G : Type 0} → ((x : Walked) → w ≡ accepted x → q ≡ x .next → u ≡ added 0 t (x .rows) → G) → G
 told t (accepted x) q u e go =
     let f : _≡_ {A = Result ℕ} (accepted q) (accepted (x .next)) = ap (λ (y : Tally). y .ended) e in
@@ -52,7 +52,7 @@ told t (refused k p) q u e go =
     let f : _≡_ {A = Result ℕ} (accepted q) (refused k p) = ap (λ (y : Tally). y .ended) e in
     absurd (clash (cc))
 
-halted : (t : List ℕ) (w : Result Walked) (k q : ℕ) (u : List ℕ) → record { ended = refused k q; counts = u } ≡ tallied t w → w ≡ refused k q
+pub halted : (t : List ℕ) (w : Result Walked) (k q : ℕ) (u : List ℕ) → record { ended = refused k q; counts = u } ≡ tallied t w → w ≡ refused k q
 halted t (accepted x) k q u e =
     let f : _≡_ {A = Result ℕ} (refused k q) (accepted (x .next)) = ap (λ (y : Tally). y .ended) e in
     absurd (clash (cc))

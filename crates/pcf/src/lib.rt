@@ -1,8 +1,16 @@
 // PCF messages: the table of structure types, one structure, the walk over all of them, and whole messages.
+mod message;
 mod structure;
 mod table;
 mod walk;
 
+pub use message::Checked;
+pub use message::Cursor;
+pub use message::Stepped;
+pub use message::Tallied;
+pub use message::check;
+pub use message::step;
+pub use message::tally;
 pub use structure::Found;
 pub use structure::Row;
 pub use structure::structure_at;

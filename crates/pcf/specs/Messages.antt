@@ -1,0 +1,28 @@
+-- The answers for a whole message, in the meaning's terms.
+use Prim.Native.Nat.{ℕ}
+use mathlib.Core.Path.{_≡_}
+use mathlib.Core.List.{List}
+use lib.ListN.{length}
+use Rattle.meaning.specs.Answer.{Result, accepted, andThen}
+use Rattle.meaning.specs.Structure.{Row}
+use Rattle.meaning.specs.Message.{tallyOf, Stepped as Step}
+use Rattle.answers.specs.Refusals.{refusal}
+use Rattle.pcf.specs.Rows.{rowOf}
+use Rattle.pcf.specs.declared.message.Checked.{Checked}
+use Rattle.pcf.specs.declared.message.Checked.the-variants as checked
+use Rattle.pcf.specs.declared.message.Tallied.{Tallied}
+use Rattle.pcf.specs.declared.message.Stepped.{Stepped}
+use Rattle.pcf.specs.declared.message.Stepped.the-variants as stepped
+
+abbrev pub checkedOf : Checked → Result ℕ
+checkedOf (checked.Sound n) = accepted n
+checkedOf (checked.Refused r) = refusal r
+
+abbrev pub steppedOf : Stepped → Result Step
+steppedOf (stepped.Structure r q) = accepted (record { row = rowOf r; next = q })
+steppedOf (stepped.Refused r) = refusal r
+
+-- t is the answer and the counts for these rows, or for what stands in their place
+pub record Tallies (rows : Result (List Row)) (t : Tallied) : Type 0 where
+  pub answer : checkedOf (t .answer) ≡ andThen rows (λ rs. accepted (length rs))
+  pub counts : t .counts ≡ tallyOf rows

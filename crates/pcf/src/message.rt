@@ -1,0 +1,158 @@
+// Whole messages: check, tally, and the walk one structure at a time.
+use crate::structure::Found;
+use crate::structure::Row;
+use crate::structure::structure_at;
+use crate::walk::Ended;
+use crate::walk::siblings;
+use answers::Refusal;
+use wire::number_at;
+ghost use mathlib.Core.Path.{_≡_};
+ghost use mathlib.Core.List.{sum};
+ghost use Prim.Native.Nat.{_+_, _≤_, _<_};
+ghost use lib.ListN.{length};
+ghost use Rattle.meaning.specs.Bytes.{number};
+ghost use Rattle.meaning.specs.Answer.{andThen};
+ghost use Rattle.meaning.specs.Walk.{walk};
+ghost use Rattle.meaning.specs.Message.{headerOk, partOf, lengthOk, closed, scan, check as checkOf, step as stepOf};
+ghost use Rattle.answers.specs.Refusals.{refusal};
+ghost use Rattle.pcf.specs.Messages.{checkedOf, steppedOf, Tallies};
+
+// The most bytes of a message, and the fewest: those of the header.
+const MOST_BYTES: usize = 65536;
+
+const HEADER: usize = 36;
+
+// Counts from here on are faults.
+const TWO_TO_31: u32 = 2147483648;
+
+// What a check finds: the number of structures, nested ones included, or 1 to 5.
+pub enum Checked {
+    Sound(u32),
+    Refused(Refusal),
+}
+
+// The check's answer, and how many structures there are of each type, 0 to 26; all 0 if refused.
+pub struct Tallied {
+    pub answer: Checked,
+    pub counts: [u32; 27],
+}
+
+// A place in a message, and the depth of the structure there.
+pub struct Cursor {
+    pub place: usize,
+    pub depth: u32,
+}
+
+// One structure and the place behind it, or 1, 3 or 4.
+pub enum Stepped {
+    Structure(Row, usize),
+    Refused(Refusal),
+}
+
+// A message is no longer than its buffer and 65,536 bytes, and has a header.
+fn length_ok(msg: &[u8], len: usize) -> bool
+    ensures { λ r. ⌜ r ≡ lengthOk (now (msg .entry)) len ⌝ }
+{
+    len <= msg.len() && (len <= MOST_BYTES && HEADER <= len)
+}
+
+// StrucLength 36, Version 1 to 3, ParameterCount below 2^31; `count` is the ParameterCount.
+fn header_ok(msg: &[u8], count: u32) -> bool
+    requires { ⌜ (36 ≤ length (now msg)) × (count ≡ number (now msg) 32) ⌝ }
+    ensures { λ r. ⌜ r ≡ headerOk (partOf (now (msg .entry)) 36) ⌝ }
+{
+    let size = number_at(msg, 4);
+    let version = number_at(msg, 8);
+    size == 36 && (1 <= version && (version <= 3 && count < TWO_TO_31))
+}
+
+// The number of structures that were counted.
+fn total(counts: [u32; 27]) -> u32
+    requires { ⌜ sum _+_ 0 counts < 65536 ⌝ }
+    ensures { λ r. ⌜ r ≡ sum _+_ 0 counts ⌝ }
+{
+    let mut n = 0;
+    let mut k = 0;
+    while k < 27 {
+        n = n + counts[k];
+        k += 1;
+    }
+    n
+}
+
+// A message that is refused has no counts.
+fn refused(r: Refusal) -> Tallied
+    ensures { λ t. ⌜ Tallies (refusal r) t ⌝ }
+{
+    Tallied {
+        answer: Checked::Refused(r),
+        counts: [0u32; 27],
+    }
+}
+
+// A message with a sound header: all its structures are walked over, and nothing may follow.
+fn structures(msg: &[u8], len: usize, count: u32) -> Tallied
+    requires { ⌜ (len ≤ length (now msg)) × (len ≤ 65536) ⌝ }
+    ensures { λ t. ⌜ Tallies (andThen (walk (partOf (now (msg .entry)) len) 36 1 count) (closed len)) t ⌝ }
+{
+    let walked = siblings(msg, len, HEADER, 1, count, [0u32; 27]);
+    let ended = walked.ended;
+    match ended {
+        Ended::Refused(r) => refused(r),
+        Ended::Behind(at) => {
+            if at == len {
+                let counts = walked.tally;
+                Tallied {
+                    answer: Checked::Sound(total(counts)),
+                    counts,
+                }
+            } else {
+                refused(Refusal::LeftOver(at))
+            }
+        }
+    }
+}
+
+// TALLY: how many structures of each type a message has, beside the check's answer.
+pub fn tally(msg: &[u8], len: usize) -> Tallied
+    ensures { λ t. ⌜ Tallies (scan (now (msg .entry)) len) t ⌝ }
+{
+    if length_ok(msg, len) {
+        let count = number_at(msg, 32);
+        if header_ok(msg, count) {
+            structures(msg, len, count)
+        } else {
+            refused(Refusal::BadHeader)
+        }
+    } else {
+        refused(Refusal::BadLength)
+    }
+}
+
+// CHECK: the number of structures of a message, or the refusal.
+pub fn check(msg: &[u8], len: usize) -> Checked
+    ensures { λ r. ⌜ checkedOf r ≡ checkOf (now (msg .entry)) len ⌝ }
+{
+    let t = tally(msg, len);
+    t.answer
+}
+
+// ONE STRUCTURE AT A TIME: the structure at any place, taken to have any depth, and the place behind it. For a group that is
+// the place of its first member.
+pub fn step(msg: &[u8], len: usize, at: Cursor) -> Stepped
+    ensures { λ r. ⌜ steppedOf r ≡ stepOf (now (msg .entry)) len (at .place) (at .depth) ⌝ }
+{
+    let place = at.place;
+    if length_ok(msg, len) {
+        let found = structure_at(msg, len, place, at.depth);
+        match found {
+            Found::Structure(row) => {
+                let next = place + row.size as usize;
+                Stepped::Structure(row, next)
+            }
+            Found::Refused(r) => Stepped::Refused(r),
+        }
+    } else {
+        Stepped::Refused(Refusal::BadLength)
+    }
+}
