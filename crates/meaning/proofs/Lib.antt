@@ -26,3 +26,4 @@ pub mod Parts
 pub mod Tallies
 pub mod Members
 pub mod Scans
+pub mod Writing

@@ -1,2 +1,5 @@
-pub mod Sheets
+pub mod Lists
 pub mod Tests
+pub mod Sheets
+pub mod Headers
+pub mod Composing

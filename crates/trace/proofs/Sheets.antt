@@ -4,21 +4,12 @@ use mathlib.Core.Path.{_≡_, refl, sym, ap, _∙_}
 use mathlib.Core.Bool.{Bool, true, false, not, _&&_}
 use mathlib.Core.List.{List, [], _∷_}
 use Prim.Native.Nat.{ℕ, suc, _+_, _≤_, _<_}
-use native.Mathlib.Numerals.{add-one}
-use native.Mathlib.Omega.{arith}
-use lib.ListN.{length, getD, drop, drop-of-length-le}
-use lib.Seq.{drop-cons}
+use lib.ListN.{length, getD, drop}
 use lib.Dec.{leb, eqb}
 use borrow.Author.Tests.{eq-eqb, ne-eqb}
 use Rattle.meaning.specs.Structure.{small}
 use Rattle.meaning.specs.Trace.{absent, different, sheetOk}
-
--- the rest of a list from k on, at its end and before
-pub rest-none : (l : List ℕ) (k : ℕ) → length l ≤ k → drop k l ≡ []
-rest-none l k h = drop-of-length-le l h
-
-pub rest-next : (l : List ℕ) (k : ℕ) → k < length l → drop k l ≡ getD l k 0 ∷ drop (k + 1) l
-rest-next l k h = rw (add-one k) (drop-cons l k 0 h)
+use Rattle.trace.proofs.Lists.{rest-none, rest-next}
 
 pub absent-none : (x : ℕ) (l : List ℕ) (k : ℕ) → length l ≤ k → absent x (drop k l) ≡ true
 unfolding absent
