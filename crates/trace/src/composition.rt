@@ -34,9 +34,9 @@ fn put_four(buf: &mut [u8], at: usize, kind: u32, size: u32, parameter: u32, las
 }
 
 // Header, TraceRoute group, and the eight integers in document 01's order.
-fn put_trace(buf: &mut [u8], sheet: &[u32; 8], values: &[u32; 8])
+fn put_trace(buf: &mut [u8], sheet: [u32; 8], values: [u32; 8])
     requires { ⌜ 180 ≤ length (now buf) ⌝ }
-    ensures { λ _. ⌜ now (buf .exit) ≡ splice (now (buf .entry)) 0 (composedOf (now (sheet .entry)) (now (values .entry))) ⌝ }
+    ensures { λ _. ⌜ now (buf .exit) ≡ splice (now (buf .entry)) 0 (composedOf sheet values) ⌝ }
 {
     put_header(buf, Kind::Trace);
     put_four(buf, 36, 20, 16, 8003, 8);
@@ -60,6 +60,6 @@ pub fn compose(sheet: [u32; 8], values: [u32; 8], buf: &mut [u8]) -> Composed
     if buf.len() < COMPOSED {
         return Composed::Refused(Refusal::NoRoom);
     }
-    put_trace(buf, &sheet, &values);
+    put_trace(buf, sheet, values);
     Composed::Written(COMPOSED)
 }

@@ -1,75 +1,43 @@
+-- `composition::put_trace` meets its contract. The invariant: the first k integers are written behind the group's header.
+-- Assumes nothing.
+use mathlib.Core.Path.{_≡_, refl, sym, ap, _∙_}
+use Prim.Native.Nat.{ℕ, _+_, _*_, _-_, _≤_, _<_}
+use native.Mathlib.Omega.{arith}
+use lib.ListN.{length}
+use Rattle.meaning.specs.Bytes.{words, splice}
+use Rattle.meaning.specs.Compose.{integers}
+use Rattle.meaning.proofs.Writing.{splice-none}
+use Rattle.trace.proofs.Composing.{firstOf, integer-next, whole}
 use Rattle.trace.proofs.composition.put_trace.Statement.{statement}
 use Rattle.trace.proofs.composition.put_trace.Tie as tie
-use Rattle.trace.proofs.composition.put_trace.Reads as reads
-use Rattle.trace.proofs.composition.put_trace.Lts as lts
-use Rattle.trace.proofs.composition.put_four.Reads as put-four-reads
-use Rattle.trace.proofs.header.put_header.Reads as put-header-reads
 
 abbrev Inv-loop : tie.InvT-loop
-Inv-loop buf₀ sheet values k₀ buf k = ?
+Inv-loop buf₀ sheet values k₀ buf k = (k ≤ 8) × (length buf ≡ length buf₀) × (buf ≡ splice buf₀ 52 (words (firstOf sheet values k)))
 
 abbrev μ-loop : tie.MeasureT-loop
-μ-loop buf₀ sheet values k₀ buf k = ?
+μ-loop buf₀ sheet values k₀ buf k = 8 - k
 
--- src/composition.rt:41:5
-put-header-requires : tie.Need-put-header-requires Inv-loop μ-loop
-put-header-requires c κs = ?
-
--- src/composition.rt:42:5
-put-four-requires : tie.Need-put-four-requires Inv-loop μ-loop
-put-four-requires c κs = ?
-
--- src/composition.rt:44:5
 loop-holds : tie.Need-loop-holds Inv-loop μ-loop
-loop-holds c = ?
+unfolding integers words
+loop-holds c = (omega arith, refl, sym (splice-none _ 52))
 
--- src/composition.rt:45:28
-mul-put-four : tie.Need-mul-put-four Inv-loop μ-loop
-mul-put-four c = ?
-
--- src/composition.rt:45:23
-add-put-four : tie.Need-add-put-four Inv-loop μ-loop
-add-put-four c = ?
-
--- src/composition.rt:45:43
-mul-put-four-2 : tie.Need-mul-put-four-2 Inv-loop μ-loop
-mul-put-four-2 c = ?
-
--- src/composition.rt:45:43
-element-copy-out-put-four : tie.Need-element-copy-out-put-four Inv-loop μ-loop
-element-copy-out-put-four c = ?
-
--- src/composition.rt:45:53
-mul-put-four-3 : tie.Need-mul-put-four-3 Inv-loop μ-loop
-mul-put-four-3 c = ?
-
--- src/composition.rt:45:53
-element-copy-out-put-four-2 : tie.Need-element-copy-out-put-four-2 Inv-loop μ-loop
-element-copy-out-put-four-2 c = ?
-
--- src/composition.rt:45:9
-put-four-requires-2 : tie.Need-put-four-requires-2 Inv-loop μ-loop
-put-four-requires-2 c κs = ?
-
--- src/composition.rt:46:9
-add-k : tie.Need-add-k Inv-loop μ-loop
-add-k c = ?
-
--- src/composition.rt:44:5
-loop-less : tie.Need-loop-less Inv-loop μ-loop
-loop-less c = ?
-
--- src/composition.rt:44:5
 loop-again : tie.Need-loop-again Inv-loop μ-loop
-loop-again c = ?
+loop-again c =
+    let l = c .before .before .before .before .before in
+    let a = l .before .before .before .before .before .before .before .before .before .before .args in (
+      omega arith,
+      c .before .before .put-four2 .kept .0 ∙ l .loop .inv .1,
+      c .before .before .put-four2 .ensures
+          ∙ rw (l .loop .inv .2) (integer-next (l .before .before .before .put-four .last .0) (a .t2) (a .t3) (omega arith) (omega arith) (omega arith) (l .loop .k) (omega arith)),
+    )
 
--- src/composition.rt:37:1
-same-length : tie.Need-same-length Inv-loop μ-loop
-same-length c = ?
-
--- src/composition.rt:37:1
 returns : tie.Need-returns Inv-loop μ-loop
-returns c = ?
+returns c =
+    let l = c .before in
+    let s = l .before .before .before .before .before .before .before .before .before .before in
+    let e : l .loop .k ≡ 8 = omega arith in
+    l .loop .inv .2
+    ∙ rw (e, l .before .before .before .put-four .ensures, l .before .before .before .before .before .before .before .put-header .ensures) (whole (s .args .buf .now) (s .args .t2) (s .args .t3) (omega arith) (omega arith) (s .pre))
 
 pub put-trace-spec : {M : Type 1} → statement M
 put-trace-spec =
@@ -77,18 +45,18 @@ put-trace-spec =
     (tie.spec
     Inv-loop
     μ-loop
-    put-header-requires
-    put-four-requires
+    (λ c κs. omega arith)
+    (λ c κs. omega arith)
     loop-holds
-    mul-put-four
-    add-put-four
-    mul-put-four-2
-    element-copy-out-put-four
-    mul-put-four-3
-    element-copy-out-put-four-2
-    put-four-requires-2
-    add-k
-    loop-less
+    (λ c. omega arith)
+    (λ c. omega arith)
+    (λ c. omega arith)
+    (λ c. omega arith)
+    (λ c. omega arith)
+    (λ c. omega arith)
+    (λ c κs. omega arith)
+    (λ c. omega arith)
+    (λ c. omega arith)
     loop-again
-    same-length
+    (λ c. omega arith)
     returns)
