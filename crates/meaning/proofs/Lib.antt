@@ -31,3 +31,4 @@ pub mod Decimals
 pub mod Lines
 pub mod Outcomes
 pub mod Printed
+pub mod Writing

@@ -1,0 +1,5 @@
+pub mod Lists
+pub mod Tests
+pub mod Sheets
+pub mod Headers
+pub mod Composing
