@@ -76,6 +76,83 @@ typedef struct gw_row {
  * is the one asked for, and gw_value() is 0. */
 gw_answer gw_step(const uint8_t *buffer, size_t size, size_t length, size_t place, uint32_t depth, gw_row *row);
 
+/* The eight attributes of a trace, as positions in a sheet and in a list of values. */
+enum gw_attribute {
+    GW_DETAIL = 0,
+    GW_RECORDED_ACTIVITIES = 1,
+    GW_UNRECORDED_ACTIVITIES = 2,
+    GW_DISCONTINUITY_COUNT = 3,
+    GW_MAX_ACTIVITIES_LIMIT = 4,
+    GW_ACCUMULATE = 5,
+    GW_FORWARD_OPTION = 6,
+    GW_DELIVER_OPTION = 7
+};
+
+/* A sheet has the identifiers of the eight attributes: eight different numbers from 1 to 2^31 - 1. These are IBM's. */
+#define GW_IBM_SHEET {1234, 1235, 1257, 1237, 1236, 1238, 1259, 1239}
+
+/* COMPOSE: refusals 17, 8, 12. Writes a trace-route message of 180 bytes to the start of the buffer and gives 180; what is
+ * behind it stays. */
+gw_answer gw_compose(const uint32_t sheet[8], const uint32_t values[8], uint8_t *buffer, size_t size);
+
+/* READ: refusals 17, then 1 to 8. Gives 0 and the eight values. */
+gw_answer gw_read(const uint8_t *buffer, size_t size, size_t length, const uint32_t sheet[8], uint32_t values[8]);
+
+enum gw_decision {
+    GW_FORWARD = 1,
+    GW_PUT = 2,
+    GW_WITHHOLD = 3
+};
+
+/* FORWARDING to a remote queue manager that supports trace-route messaging or does not: refusals as gw_read's, then 14, 15
+ * and 16. Gives GW_FORWARD. */
+gw_answer gw_forward(const uint8_t *buffer, size_t size, size_t length, const uint32_t sheet[8], bool supporting);
+
+/* ARRIVAL: refusals as gw_read's, then 14. Gives GW_PUT or GW_WITHHOLD. */
+gw_answer gw_arrive(const uint8_t *buffer, size_t size, size_t length, const uint32_t sheet[8]);
+
+/* A part of a message. */
+typedef struct gw_part {
+    uint64_t place;
+    uint64_t length;
+} gw_part;
+
+/* THE N-TH ACTIVITY GROUP, from 0, with all that is in it: the part of the message that it is; place 0 and length 0 if there
+ * is none, or if message or sheet is refused as in gw_read. */
+void gw_activity_group(const uint8_t *buffer, size_t size, size_t length, const uint32_t sheet[8], size_t n, gw_part *part);
+
+/* A NAMED STRING: the first direct string with the identifier in the n-th Activity group. True, and the part of the message
+ * that it is, without its trailing blanks; or false, and the part as it was: there is no such string, or message or sheet is
+ * refused as in gw_read, and the caller takes its substitute. */
+bool gw_named_string(const uint8_t *buffer, size_t size, size_t length, const uint32_t sheet[8], size_t n,
+                     uint32_t identifier, gw_part *part);
+
+/* What an accepted event did: which counter rose (GW_RECORDED_ACTIVITIES, GW_UNRECORDED_ACTIVITIES or
+ * GW_DISCONTINUITY_COUNT), whether the group was appended (1 or 0), the report's length or 0, the message's length now. */
+typedef struct gw_done {
+    uint64_t counter;
+    uint64_t appended;
+    uint64_t report_length;
+    uint64_t message_length;
+} gw_done;
+
+enum gw_level {
+    GW_LOW = 1,
+    GW_MEDIUM = 2,
+    GW_HIGH = 3
+};
+
+/* A DISCONTINUITY: refusals as gw_read's, then 10 and 11. Gives the message's length, which does not change. */
+gw_answer gw_discontinuity(uint8_t *buffer, size_t size, size_t length, const uint32_t sheet[8], gw_done *done);
+
+/* AN ACTIVITY: refusals as gw_read's, then 9 to 13. Gives the message's new length. The lent group is one whole Activity
+ * group; where it is appended it is written behind the message and the header's count rises. Where a report is due it is
+ * written to the start of the report buffer; what is behind it stays. A level that is not one of gw_level's counts as
+ * GW_HIGH. */
+gw_answer gw_activity(uint8_t *buffer, size_t size, size_t length, const uint32_t sheet[8], uint32_t level,
+                      const uint8_t *group, size_t group_size, bool reports_asked, bool activity_recording,
+                      bool trace_route_messaging, uint8_t *report, size_t report_size, gw_done *done);
+
 #ifdef __cplusplus
 }
 #endif

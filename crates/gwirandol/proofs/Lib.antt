@@ -1,0 +1,2 @@
+mod Reach
+mod Steps

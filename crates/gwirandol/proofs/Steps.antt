@@ -1,0 +1,19 @@
+-- One structure for C: the refusal's number and nothing written, or the row.
+use mathlib.Core.Path.{_≡_, refl, sym, ap, _∙_}
+use mathlib.Core.List.{List, [], _∷_}
+use Prim.Native.Nat.{ℕ}
+use Rattle.meaning.specs.Answer.{Result, accepted, refused}
+use Rattle.meaning.specs.Message.{step}
+use Rattle.answers.specs.Refusals.{numberOf, refusal}
+use Rattle.answers.specs.declared.Refusal.{Refusal}
+use Rattle.pcf.specs.Rows.{rowOf}
+use Rattle.pcf.specs.declared.structure.Row.{Row}
+use Rattle.gwirandol.specs.Codes.{numberIn, rowIn, Steps}
+
+pub steps-refused : (buf : List ℕ) (len place depth : ℕ) (before : List ℕ) (n : ℕ) (r : Refusal) → step buf len place depth ≡ refusal r → n ≡ numberOf r
+    → Steps buf len place depth before n before
+steps-refused buf len place depth before n r e f = record { answer = rw e f; row = rw e refl }
+
+pub steps-row : (buf : List ℕ) (len place depth : ℕ) (before : List ℕ) (r : Row) (next : ℕ) → step buf len place depth ≡ accepted (record { row = rowOf r; next = next })
+    → Steps buf len place depth before 0 (r .depth ∷ r .place ∷ r .kind ∷ r .parameter ∷ r .size ∷ r .members ∷ next ∷ [])
+steps-row buf len place depth before r next e = record { answer = rw e refl; row = rw e refl }

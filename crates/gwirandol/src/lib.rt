@@ -1,0 +1,3 @@
+// The functions for C: libgwirandol.a, declared in include/gwirandol.h.
+mod code;
+mod structures;

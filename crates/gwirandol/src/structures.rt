@@ -1,0 +1,86 @@
+// Check, tally, listing, and one structure at a time.
+use crate::code::given;
+use crate::code::refused;
+use listing::Listed;
+use pcf::Checked;
+use pcf::Cursor;
+use pcf::Stepped;
+ghost use mathlib.Core.Path.{_≡_};
+ghost use Rattle.meaning.specs.Message.{check};
+ghost use Rattle.gwirandol.specs.Codes.{code, Fits, Tallies, Lists, Steps};
+ghost use Rattle.pcf.specs.Messages.{checkedOf};
+ghost use Rattle.listing.specs.Entries.{listedOf};
+
+// The check's answer.
+fn checked(found: Checked) -> u64
+    requires { ⌜ Fits (checkedOf found) ⌝ }
+    ensures { λ r. ⌜ r ≡ code (checkedOf found) ⌝ }
+{
+    match found {
+        Checked::Sound(n) => given(n as usize),
+        Checked::Refused(r) => refused(r),
+    }
+}
+
+// CHECK: the number of structures, or 1 to 5.
+#[no_mangle]
+pub extern "C" fn gw_check(buffer: &[u8], length: usize) -> u64
+    ensures { λ r. ⌜ r ≡ code (check (now (buffer .entry)) length) ⌝ }
+{
+    checked(pcf::check(buffer, length))
+}
+
+// TALLY: answers as the check does; one count for each type, all 0 if the message is refused.
+#[no_mangle]
+pub extern "C" fn gw_tally(buffer: &[u8], length: usize, counts: &mut [u32; 27]) -> u64
+    ensures { λ r. ⌜ Tallies (now (buffer .entry)) length r (now (counts .exit)) ⌝ }
+{
+    let tallied = pcf::tally(buffer, length);
+    let told = tallied.counts;
+    *counts = told;
+    let answer = tallied.answer;
+    checked(answer)
+}
+
+// The listing's answer.
+fn listed(found: Listed) -> u64
+    requires { ⌜ Fits (listedOf found) ⌝ }
+    ensures { λ r. ⌜ r ≡ code (listedOf found) ⌝ }
+{
+    match found {
+        Listed::Text(n) => given(n),
+        Listed::Refused(r) => refused(r),
+    }
+}
+
+// LIST: the text's length, or 1 to 5. A refusal leaves the text as it was.
+#[no_mangle]
+pub extern "C" fn gw_list(buffer: &[u8], length: usize, text: &mut [u8; 131072]) -> u64
+    ensures { λ r. ⌜ Lists (now (buffer .entry)) length (now (text .entry)) r (now (text .exit)) ⌝ }
+{
+    listed(listing::list(buffer, length, text))
+}
+
+// ONE STRUCTURE at any place and depth: the row and the place behind it, or 1, 3 or 4 with the row as it was. The place of
+// 3 and 4 is the one that was asked for, so the answer is the number alone.
+#[no_mangle]
+pub extern "C" fn gw_step(buffer: &[u8], length: usize, place: usize, depth: u32, row: &mut [u64; 7]) -> u64
+    ensures { λ r. ⌜ Steps (now (buffer .entry)) length place depth (now (row .entry)) r (now (row .exit)) ⌝ }
+{
+    let found = pcf::step(buffer, length, Cursor { place, depth });
+    match found {
+        Stepped::Refused(r) => answers::number(r) as u64,
+        Stepped::Structure(s, next) => {
+            *row = [
+                s.depth as u64,
+                s.place as u64,
+                s.kind as u64,
+                s.parameter as u64,
+                s.size as u64,
+                s.members as u64,
+                next as u64,
+            ];
+            0
+        }
+    }
+}
