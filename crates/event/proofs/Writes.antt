@@ -4,9 +4,13 @@ use mathlib.Core.Bool.{Bool, true, false}
 use mathlib.Core.List.{List}
 use Prim.Native.Nat.{ℕ, _+_, _≤_}
 use native.Mathlib.Omega.{arith}
-use Rattle.meaning.specs.Bytes.{number, bytes4, splice, store}
+use lib.ListN.{length}
+use Rattle.meaning.specs.Bytes.{number, bytes4, words, splice, store}
 use Rattle.meaning.specs.Message.{partOf}
-use Rattle.meaning.specs.Event.{grown, grownIf}
+use Rattle.meaning.specs.Compose.{headerFields, reportHeaderFields}
+use Rattle.meaning.specs.Event.{grown, grownIf, reportOf}
+use Rattle.meaning.proofs.Numbers.{length-words}
+use Rattle.meaning.proofs.Joins.{splice-next}
 use Rattle.meaning.proofs.Parts.{num-part}
 
 module _ (buf : List ℕ) (len at value : ℕ) (appends : Bool) (g : List ℕ) where
@@ -19,3 +23,8 @@ module _ (buf : List ℕ) (len at value : ℕ) (appends : Bool) (g : List ℕ) w
       ≡ grownIf appends (partOf buf len) (store (partOf buf len) buf at (value + 1)) g
   unfolding store grown
   raised-and-grown count h c e = rw (e, num-part buf len 32 (omega arith), c) refl
+
+-- a report: its header, and behind it the group
+pub header-and-group : (r g : List ℕ) → 36 + length g ≤ length r → splice (splice r 0 (words reportHeaderFields)) 36 g ≡ splice r 0 (reportOf g)
+unfolding reportOf reportHeaderFields headerFields
+header-and-group r g h = splice-next r 0 (words reportHeaderFields) 36 g (omega (arith, length-words reportHeaderFields)) h

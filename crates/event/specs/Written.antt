@@ -14,3 +14,7 @@ pub record Writable (buf : List ℕ) (len at value : ℕ) (appends : Bool) (grou
   pub value-fits : value + 1 < 4294967296
   pub count-fits : number buf 32 + 1 < 4294967296
   pub group-fits : appends ≡ true → len + length group ≤ length buf
+
+-- a report that is due fits its buffer
+abbrev pub Reportable : Bool → List ℕ → List ℕ → Type 0
+Reportable due group report = due ≡ true → 36 + length group ≤ length report

@@ -1,13 +1,19 @@
 // What an accepted event writes: the counter's new value, and behind the message the group.
+use trace::Kind;
+use trace::put_header;
 use wire::copy_to;
 use wire::number_at;
 use wire::put_number;
 ghost use mathlib.Core.Path.{_≡_};
-ghost use Rattle.meaning.specs.Bytes.{store};
+ghost use lib.ListN.{length};
+ghost use Rattle.meaning.specs.Bytes.{splice, store};
 ghost use Rattle.meaning.specs.Message.{partOf};
-ghost use Rattle.meaning.specs.Event.{grownIf};
-ghost use Prim.Native.Nat.{_+_};
-ghost use Rattle.event.specs.Written.{Writable};
+ghost use Rattle.meaning.specs.Event.{grownIf, reportOf, reportedIf};
+ghost use Prim.Native.Nat.{_+_, _≤_};
+ghost use Rattle.event.specs.Written.{Writable, Reportable};
+
+// The bytes of a header.
+const HEADER: usize = 36;
 
 // The place of the header's ParameterCount.
 const COUNT: usize = 32;
@@ -23,5 +29,24 @@ pub fn write_message(buf: &mut [u8], len: usize, at: usize, value: u32, appends:
     if appends {
         put_number(buf, COUNT, count + 1);
         copy_to(buf, len, group);
+    }
+}
+
+// Writes a report to the start of its buffer: its header, then the group.
+fn write_report(report: &mut [u8], group: &[u8])
+    requires { ⌜ 36 + length (now group) ≤ length (now report) ⌝ }
+    ensures { λ _. ⌜ now (report .exit) ≡ splice (now (report .entry)) 0 (reportOf (now (group .entry))) ⌝ }
+{
+    put_header(report, Kind::Report);
+    copy_to(report, HEADER, group);
+}
+
+// A report is written where one is due.
+pub fn write_report_if(due: bool, report: &mut [u8], group: &[u8])
+    requires { ⌜ Reportable due (now group) (now report) ⌝ }
+    ensures { λ _. ⌜ now (report .exit) ≡ reportedIf due (now (report .entry)) (now (group .entry)) ⌝ }
+{
+    if due {
+        write_report(report, group);
     }
 }
