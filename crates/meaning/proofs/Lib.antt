@@ -30,5 +30,4 @@ pub mod Joins
 pub mod Decimals
 pub mod Lines
 pub mod Outcomes
-pub mod Printed
 pub mod Writing
