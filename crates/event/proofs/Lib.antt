@@ -2,3 +2,4 @@ mod Groups
 mod Plans
 mod Verdicts
 mod Writes
+mod Entries

@@ -110,7 +110,7 @@ module _ (tm : Terms) (buf : List ℕ) (len : ℕ) (t : Trace) (s : Sound tm buf
   raised-same : (i : ℕ) → ((q + 12 ≤ i) × (i < q + 16) → ⊥) → getD b₁ i 0 ≡ getD buf i 0
   raised-same i h = store-same P buf (valuePlace q) (num P (valuePlace q) + 1) fits i (λ x. h (x .0, omega (arith, x .1)))
 
-  value-at : num P (valuePlace q) ≡ value (t .values) c
+  pub value-at : num P (valuePlace q) ≡ value (t .values) c
   unfolding valueAt
   value-at =
       sym (value-of (tm .sheet) P t (s .sheet-ok) (s .message) P c (omega arith)) ∙ ap (λ (l : List ℕ). value l c) (s .message .values)

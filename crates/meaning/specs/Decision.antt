@@ -2,7 +2,7 @@
 use Prim.Native.Nat.{ℕ}
 use mathlib.Core.Bool.{Bool, not, _&&_}
 use mathlib.Core.List.{List}
-use Rattle.meaning.specs.Names.{«MQROUTE_FORWARD_IF_SUPPORTED», «MQROUTE_DELIVER_YES», «MQROUTE_REJ_UNSUP_MASK», Forward, Deliver, «MQFB_UNSUPPORTED_DELIVERY», «MQFB_UNSUPPORTED_FORWARDING», «MQFB_NOT_FORWARDED»}
+use Rattle.meaning.specs.Names.{«MQROUTE_FORWARD_IF_SUPPORTED», «MQROUTE_DELIVER_YES», rejectUnsupported, Forward, Deliver, «MQFB_UNSUPPORTED_DELIVERY», «MQFB_UNSUPPORTED_FORWARDING», «MQFB_NOT_FORWARDED»}
 use Rattle.meaning.specs.Answer.{Result, accepted, refused, andThen, when}
 use Rattle.meaning.specs.Trace.{Terms, value, anyBit, read}
 
@@ -11,7 +11,7 @@ pub data Decision : Type 0 where
 
 -- "Any bit under the mask 0xFFFF0000 in Forward or Deliver is an unrecognised option."
 unfoldable pub unrecognised : ℕ → Bool
-unrecognised x = anyBit «MQROUTE_REJ_UNSUP_MASK» x
+unrecognised x = anyBit rejectUnsupported x
 
 -- of a value in range exactly one of the two bits is set, so one bit tells
 unfoldable pub deliverYes : ℕ → Bool

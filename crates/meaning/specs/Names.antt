@@ -124,8 +124,9 @@ abbrev pub «MQROUTE_DELIVER_YES» : ℕ
 abbrev pub «MQROUTE_DELIVER_NO» : ℕ
 «MQROUTE_DELIVER_NO» = 0x2000
 
-abbrev pub «MQROUTE_REJ_UNSUP_MASK» : ℕ
-«MQROUTE_REJ_UNSUP_MASK» = 0xFFFF0000
+-- (IBM has it twice, for Forward and for Deliver: MQROUTE_FORWARD_REJ_UNSUP_MASK, MQROUTE_DELIVER_REJ_UNSUP_MASK)
+abbrev pub rejectUnsupported : ℕ
+rejectUnsupported = 0xFFFF0000
 
 -- The eight attributes, in document 01's order: their positions in a sheet, in a list of values and in a list of places.
 abbrev pub Detail : ℕ
@@ -156,7 +157,8 @@ Deliver = 7
 abbrev pub attributes : ℕ
 attributes = 8
 
--- The refusals' numbers. Three are IBM feedback codes, and keep IBM's names.
+-- The refusals, by document 01's numbers. Four of them mean that IBM's feedback of that name is given; the number is still
+-- document 01's, not the value of IBM's feedback code.
 abbrev pub badLength : ℕ
 badLength = 1
 

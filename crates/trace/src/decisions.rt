@@ -6,7 +6,7 @@ ghost use Rattle.meaning.specs.Decision.{forwardBy, arriveBy};
 ghost use Rattle.trace.specs.Decisions.{judgedOf};
 
 // Any bit of Forward or Deliver under this mask is an unrecognised option.
-const MQROUTE_REJ_UNSUP_MASK: u32 = 0xFFFF0000;
+const REJECT_UNSUPPORTED: u32 = 0xFFFF0000;
 
 // Of a value in range exactly one of two bits is set, so that one bit tells.
 const MQROUTE_FORWARD_IF_SUPPORTED: u32 = 0x200;
@@ -30,11 +30,11 @@ pub enum Judged {
 pub fn forward_by(v: [u32; 8], supporting: bool) -> Judged
     ensures { λ r. ⌜ judgedOf r ≡ forwardBy v supporting ⌝ }
 {
-    if !supporting & any_bit(v[7], MQROUTE_REJ_UNSUP_MASK) {
+    if !supporting & any_bit(v[7], REJECT_UNSUPPORTED) {
         return Judged::Refused(Refusal::UnsupportedDelivery);
     }
     let open = supporting | !any_bit(v[7], MQROUTE_DELIVER_YES);
-    if open & any_bit(v[6], MQROUTE_REJ_UNSUP_MASK) {
+    if open & any_bit(v[6], REJECT_UNSUPPORTED) {
         return Judged::Refused(Refusal::UnsupportedForwarding);
     }
     if (open & !supporting) & any_bit(v[6], MQROUTE_FORWARD_IF_SUPPORTED) {
@@ -47,7 +47,7 @@ pub fn forward_by(v: [u32; 8], supporting: bool) -> Judged
 pub fn arrive_by(v: [u32; 8]) -> Judged
     ensures { λ r. ⌜ judgedOf r ≡ arriveBy v ⌝ }
 {
-    if any_bit(v[7], MQROUTE_REJ_UNSUP_MASK) {
+    if any_bit(v[7], REJECT_UNSUPPORTED) {
         return Judged::Refused(Refusal::UnsupportedDelivery);
     }
     if any_bit(v[7], MQROUTE_DELIVER_YES) {

@@ -5,7 +5,7 @@ use mathlib.Core.Bool.{Bool, not, _&&_, _||_}
 use mathlib.Core.List.{List}
 use Prim.Native.Nat.{ℕ}
 use borrow.Author.Needs.{needs}
-use Rattle.meaning.specs.Names.{«MQROUTE_FORWARD_IF_SUPPORTED», «MQROUTE_DELIVER_YES», «MQROUTE_REJ_UNSUP_MASK», Forward, Deliver, «MQFB_UNSUPPORTED_DELIVERY», «MQFB_UNSUPPORTED_FORWARDING», «MQFB_NOT_FORWARDED»}
+use Rattle.meaning.specs.Names.{«MQROUTE_FORWARD_IF_SUPPORTED», «MQROUTE_DELIVER_YES», rejectUnsupported, Forward, Deliver, «MQFB_UNSUPPORTED_DELIVERY», «MQFB_UNSUPPORTED_FORWARDING», «MQFB_NOT_FORWARDED»}
 use Rattle.meaning.specs.Answer.{Result, accepted, refused, when}
 use Rattle.meaning.specs.Trace.{value, anyBit}
 use Rattle.meaning.specs.Decision.{Decision, forward, unrecognised, deliverYes, ifSupported, forwardBy}
@@ -14,8 +14,8 @@ use Rattle.trace.proofs.decisions.forward_by.Statement.{statement}
 use Rattle.trace.proofs.decisions.forward_by.Tie as tie
 
 -- by the tests that the code makes: of Deliver for 14, of Deliver for yes, of Forward for 15, of Forward for 16
-chain : (v : List ℕ) (s d y u f : Bool) → d ≡ anyBit «MQROUTE_REJ_UNSUP_MASK» (value v Deliver) → y ≡ anyBit «MQROUTE_DELIVER_YES» (value v Deliver)
-    → u ≡ anyBit «MQROUTE_REJ_UNSUP_MASK» (value v Forward) → f ≡ anyBit «MQROUTE_FORWARD_IF_SUPPORTED» (value v Forward)
+chain : (v : List ℕ) (s d y u f : Bool) → d ≡ anyBit rejectUnsupported (value v Deliver) → y ≡ anyBit «MQROUTE_DELIVER_YES» (value v Deliver)
+    → u ≡ anyBit rejectUnsupported (value v Forward) → f ≡ anyBit «MQROUTE_FORWARD_IF_SUPPORTED» (value v Forward)
     → forwardBy v s
     ≡ when (not s && d) (refused «MQFB_UNSUPPORTED_DELIVERY» 0)
     (when ((s || not y) && u) (refused «MQFB_UNSUPPORTED_FORWARDING» 0) (when (((s || not y) && not s) && f) (refused «MQFB_NOT_FORWARDED» 0) (accepted forward)))
