@@ -1,0 +1,144 @@
+//! Small builders that many tests share.
+
+use decoder::generate::{assemble, Piece};
+use decoder::{
+    Activity, Applied, Counter, EventRefusal, Level, Refusal, Settings, Sheet, Values,
+    ACCUMULATE_NONE, DELIVER_NO, DETAIL_LOW, FORWARD_ALL,
+};
+
+/// Document 01's made-up sheet.
+pub fn sheet() -> Sheet {
+    Sheet::new([1201, 1202, 1203, 1204, 1205, 1206, 1207, 1208])
+}
+
+/// Plain values: low detail, no limit, no accumulation.
+pub fn plain_values() -> Values {
+    Values {
+        detail: DETAIL_LOW,
+        recorded: 0,
+        unrecorded: 0,
+        discontinuities: 0,
+        max_activities: 0,
+        accumulate: ACCUMULATE_NONE,
+        forward: FORWARD_ALL,
+        deliver: DELIVER_NO,
+    }
+}
+
+/// A composed message under the made-up sheet.
+pub fn composed(values: &Values) -> Vec<u8> {
+    let mut buffer = vec![0; 180];
+    assert_eq!(decoder::compose(&sheet(), values, &mut buffer), Ok(180));
+    buffer
+}
+
+/// Header fields of a sound message of Type 7.
+pub const EVENT_FIELDS: [u32; 8] = [7, 36, 3, 99, 1, 1, 0, 0];
+/// Header fields of a trace-route message.
+pub const TRACE_FIELDS: [u32; 8] = [10, 36, 3, 75, 1, 1, 0, 0];
+
+/// A message of Type 7 with these top-level structures.
+pub fn message(pieces: &[Piece]) -> Vec<u8> {
+    assemble(EVENT_FIELDS, pieces)
+}
+
+/// A trace-route message with these top-level structures.
+pub fn trace(pieces: &[Piece]) -> Vec<u8> {
+    assemble(TRACE_FIELDS, pieces)
+}
+
+/// The eight attributes under the made-up sheet.
+pub fn attributes(values: &Values) -> Vec<Piece> {
+    let pairs = sheet().identifiers.into_iter().zip(values.to_array());
+    pairs.map(|(id, value)| Piece::integer(id, value)).collect()
+}
+
+/// A TraceRoute group with plain values.
+pub fn trace_route() -> Piece {
+    Piece::group(8003, &attributes(&plain_values()))
+}
+
+pub fn put(bytes: &mut [u8], place: usize, value: u32) {
+    bytes[place..place + 4].copy_from_slice(&value.to_be_bytes());
+}
+
+pub fn get(bytes: &[u8], place: usize) -> u32 {
+    u32::from_be_bytes(bytes[place..place + 4].try_into().unwrap())
+}
+
+pub fn refusal(number: u8, place: usize) -> Refusal {
+    Refusal { number, place }
+}
+
+/// A refused event without a word on a reply.
+pub fn event_refusal(number: u8) -> EventRefusal {
+    EventRefusal {
+        number,
+        place: 0,
+        reply_owed: None,
+    }
+}
+
+pub fn limit_refusal(reply_owed: bool) -> EventRefusal {
+    EventRefusal {
+        number: 10,
+        place: 0,
+        reply_owed: Some(reply_owed),
+    }
+}
+
+pub fn check_all(bytes: &[u8]) -> Result<usize, Refusal> {
+    decoder::check(bytes, bytes.len())
+}
+
+pub fn read_all(bytes: &[u8]) -> Result<Values, Refusal> {
+    decoder::read(bytes, bytes.len(), &sheet())
+}
+
+/// Groups nested to so many levels, the innermost with these members.
+pub fn nested(depth: u32, members: &[Piece]) -> Piece {
+    (1..depth).fold(Piece::group(1, members), |inner, _| {
+        Piece::group(1, &[inner])
+    })
+}
+
+/// The shortest Activity group.
+pub fn empty_group() -> Vec<u8> {
+    Piece::group(8005, &[]).bytes
+}
+
+/// A high activity with everything on and asked for.
+pub fn busy(group: &[u8]) -> Activity<'_> {
+    Activity {
+        level: Level::High,
+        group,
+        reports_asked: true,
+        settings: Settings {
+            activity_recording: true,
+            trace_route_messaging: true,
+        },
+    }
+}
+
+/// A high activity with nothing on and nothing asked for.
+pub fn idle(group: &[u8]) -> Activity<'_> {
+    Activity {
+        level: Level::High,
+        group,
+        reports_asked: false,
+        settings: Settings {
+            activity_recording: false,
+            trace_route_messaging: false,
+        },
+    }
+}
+
+/// The answer of an event that only raised a counter.
+pub fn counted(counter: Counter, message_length: usize) -> Applied {
+    Applied {
+        counter,
+        appended: false,
+        report_length: 0,
+        message_length,
+    }
+}
