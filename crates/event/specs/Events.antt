@@ -2,9 +2,10 @@
 use Prim.Native.Nat.{ℕ, _≤_}
 use mathlib.Core.Path.{_≡_}
 use mathlib.Core.Bool.{Bool}
-use mathlib.Core.List.{List}
+use mathlib.Core.List.{List, []}
+use lib.ListN.{length}
 use Rattle.meaning.specs.Names.{RecordedActivities, UnrecordedActivities, DiscontinuityCount}
-use Rattle.meaning.specs.Event.{Level as Rank, low, medium, high, Settings as Manager, Event, discontinuity, activity, Plan as Due, planOf, Done as Told, Answer as Said, done, denied}
+use Rattle.meaning.specs.Event.{Level as Rank, low, medium, high, Settings as Manager, Event, discontinuity, activity, Plan as Due, planOf, Done as Told, Answer as Said, done, denied, State, Outcome, applied, leaving, decide, event}
 use Rattle.answers.specs.Refusals.{numberOf, placeOf, owed}
 use Rattle.event.specs.declared.plan.Level.{Level}
 use Rattle.event.specs.declared.plan.Level.the-variants.{Low, Medium, High}
@@ -56,3 +57,27 @@ doneOf d = record { counter = counterOf (d .counter); appended = d .appended; re
 abbrev pub answerOf : Answer → Said
 answerOf (answer.Done d) = done (doneOf d)
 answerOf (answer.Refused r) = denied (numberOf r) (placeOf r) (owed r)
+
+-- THE STATE that an event is given: the message buffer, the message's length, the report buffer
+abbrev pub state : List ℕ → ℕ → List ℕ → State
+state buf len report = record { buf = buf; len = len; report = report }
+
+-- the message's length after an answer
+abbrev pub lengthAfter : ℕ → Answer → ℕ
+lengthAfter len (answer.Done d) = d .message
+lengthAfter len (answer.Refused r) = len
+
+-- the answer, and what is left: a caller that hands it on to the next event goes from state to state
+abbrev pub outcome : Answer → ℕ → List ℕ → List ℕ → Outcome
+outcome r len buf report = record { answer = answerOf r; next = record { buf = buf; len = lengthAfter len r; report = report } }
+
+-- a discontinuity, whatever the report buffer: it stays as it is
+abbrev pub Discontinues : List ℕ → List ℕ → ℕ → Answer → List ℕ → Type 0
+Discontinues sheet buf len r buf′ =
+    (report : List ℕ) → outcome r len buf′ report ≡ event (record { sheet = sheet }) (state buf len report) discontinuity
+
+-- the same for a trace that was read
+abbrev pub Counts : List ℕ → ℕ → List ℕ → List ℕ → Answer → List ℕ → Type 0
+Counts buf len places values r buf′ =
+    (report : List ℕ) → outcome r len buf′ report
+    ≡ leaving (state buf len report) (applied (state buf len report) [] places (planOf values discontinuity)) (decide values (planOf values discontinuity) 0 len (length buf) (length report))

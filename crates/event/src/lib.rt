@@ -1,4 +1,5 @@
 // Events on a trace: a discontinuity or an activity is counted, appended and reported, or refused with nothing changed.
+mod entered;
 mod group;
 mod plan;
 mod verdict;

@@ -1,0 +1,58 @@
+// An event on a trace that was read: decided, and then written.
+use crate::plan::Plan;
+use crate::plan::index_of;
+use crate::plan::plan_discontinuity;
+use crate::verdict::Answer;
+use crate::verdict::decide;
+use crate::written::write_message;
+use crate::written::write_report_if;
+use wire::put_number;
+ghost use mathlib.Core.Path.{_≡_};
+ghost use lib.ListN.{length};
+ghost use Rattle.meaning.specs.Event.{applied, decide as decideOn, leaving};
+ghost use Rattle.event.specs.Events.{planned, outcome, state, Counts};
+ghost use Rattle.event.specs.Written.{Ready, Countable};
+
+// Behind Type, StrucLength and Parameter of an integer stands its Value.
+const VALUE: usize = 12;
+
+// All refusals come before the first byte is written.
+pub fn enter(
+    buf: &mut [u8],
+    len: usize,
+    places: [usize; 8],
+    values: [u32; 8],
+    plan: Plan,
+    group: &[u8],
+    report: &mut [u8],
+) -> Answer
+    requires { ⌜ Ready (now buf) len places values (planned plan) (now group) (now report) ⌝ }
+    ensures { λ r. ⌜ outcome r len (now (buf .exit)) (now (report .exit)) ≡ leaving (state (now (buf .entry)) len (now (report .entry))) (applied (state (now (buf .entry)) len (now (report .entry))) (now (group .entry)) places (planned plan)) (decideOn values (planned plan) (length (now (group .entry))) len (length (now (buf .entry))) (length (now (report .entry)))) ⌝ }
+{
+    let answer = decide(values, plan, group.len(), len, buf.len(), report.len());
+    match answer {
+        Answer::Refused(r) => Answer::Refused(r),
+        Answer::Done(done) => {
+            let counter = plan.counter;
+            let i = index_of(counter);
+            write_message(buf, len, places[i] + VALUE, values[i], plan.appends, group);
+            write_report_if(plan.reports, report, group);
+            Answer::Done(done)
+        }
+    }
+}
+
+// A discontinuity writes one number, and reports nothing.
+pub fn count(buf: &mut [u8], len: usize, places: [usize; 8], values: [u32; 8]) -> Answer
+    requires { ⌜ Countable (now buf) len places values ⌝ }
+    ensures { λ r. ⌜ Counts (now (buf .entry)) len places values r (now (buf .exit)) ⌝ }
+{
+    let answer = decide(values, plan_discontinuity(), 0, len, buf.len(), 0);
+    match answer {
+        Answer::Refused(r) => Answer::Refused(r),
+        Answer::Done(done) => {
+            put_number(buf, places[3] + VALUE, values[3] + 1);
+            Answer::Done(done)
+        }
+    }
+}
