@@ -4,7 +4,11 @@ use mathlib.Core.List.{List}
 use Prim.Native.Nat.{ℕ, _≤_}
 use native.Mathlib.Omega.{arith}
 use lib.ListN.{length}
-use Rattle.meaning.specs.Answer.{Result, accepted, refused, andThen}
+use lib.Dec.{leb}
+use mathlib.Core.Bool.{Bool, true, false}
+use Rattle.meaning.specs.Answer.{Result, accepted, refused, andThen, unless}
+use Rattle.meaning.specs.Trace.{Terms, sheetOk}
+use Rattle.meaning.specs.Compose.{composedLength, valuesOk, composeAnswer, compose}
 use Rattle.meaning.specs.Structure.{Row}
 use Rattle.meaning.specs.Message.{partOf, scan, check}
 use Rattle.meaning.specs.Listing.{listingText}
@@ -29,3 +33,13 @@ list-of buf len (refused n p) e = omega (arith, scan-refused buf len n p e)
 
 pub list-fits : (buf : List ℕ) (len : ℕ) → Fits (andThen (scan buf len) (λ rows. accepted (length (listingText (partOf buf len) len rows))))
 list-fits buf len = list-of buf len (scan buf len) refl
+
+-- Compose writes 180 bytes, and its refusals have the place 0
+unless-fits : (b : Bool) (n : ℕ) (r : Result ℕ) → Fits r → Fits (unless b (refused n 0) r)
+unless-fits true n r h = h
+unless-fits false n r h = omega arith
+
+pub compose-fits : (tm : Terms) (v buf : List ℕ) → Fits (compose tm v buf .answer)
+unfolding compose composeAnswer
+compose-fits tm v buf =
+    unless-fits (sheetOk (tm .sheet)) 17 _ (unless-fits (valuesOk v) 8 _ (unless-fits (leb composedLength (length buf)) 12 _ (omega arith)))

@@ -1,0 +1,19 @@
+-- `traces::composed` meets its contract.
+use mathlib.Core.Path.{_≡_, sym, ap, _∙_, subst}
+use borrow.Author.Needs.{needs}
+use Rattle.trace.specs.Composes.{composedOf}
+use Rattle.trace.specs.declared.composition.Composed.{Composed}
+use Rattle.gwirandol.specs.Codes.{code, Fits}
+use Rattle.gwirandol.proofs.traces.composed.Statement.{statement}
+use Rattle.gwirandol.proofs.traces.composed.Tie as tie
+
+pub composed-spec : {M : Type 1} → statement M
+composed-spec =
+    tie.close
+    (tie.spec
+    (λ c. search needs)
+    (λ c κs. subst (λ (x : Composed). Fits (composedOf x)) (c .before .found .given .1) (c .before .before .before .pre))
+    (λ c. search needs)
+    (λ c κs. subst (λ (x : Composed). Fits (composedOf x)) (c .before .found2 .given .1) (c .before .before .before .pre))
+    (λ c. c .given .ensures ∙ ap (λ (x : Composed). code (composedOf x)) (sym (c .before .before .found .given .1)))
+    (λ c. c .refused .ensures ∙ ap (λ (x : Composed). code (composedOf x)) (sym (c .before .before .found2 .given .1))))
