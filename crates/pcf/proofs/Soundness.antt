@@ -9,7 +9,7 @@ use lib.Dec.{leb, ltb, eqb}
 use borrow.Author.Tests.{lt-leb, le-leb, eq-eqb, ne-eqb, leb-true}
 use Rattle.meaning.specs.Bytes.{number, num, word}
 use Rattle.meaning.specs.Names.{«MQCFT_GROUP», mostDepth}
-use Rattle.meaning.specs.Structure.{lengthRule, rowOf, judged, judge, structureAt}
+use Rattle.meaning.specs.Structure.{Row, lengthRule, judged, judge, structureAt}
 use Rattle.meaning.specs.Message.{partOf}
 use Rattle.meaning.proofs.Tests.{and-true, is-false}
 use Rattle.meaning.proofs.Structures.{rule-16}
@@ -44,23 +44,26 @@ module _ (s : List ℕ) (end p t n : ℕ) where
         rw (le-leb (p + n) end fits, eq-eqb (n % 4) 0 h, word-part s end (p + n) (p + 12) fits, word-part s end (p + n) (p + 16) fits, word-part s end (p + n) (p + 20) fits)
         (e ∙ j n (fieldOf s p n))
 
-module _ (s : List ℕ) (end p d t n : ℕ) (room : p + 16 ≤ end) (et : t ≡ number s p) (en : n ≡ number s (p + 4)) where
+-- of a structure that is not sound the row does not matter
+same-judged : (x y : Bool) (p : ℕ) (r r′ : Row) → (x ≡ true → r ≡ r′) → judged x y p r ≡ judged x y p r′
+same-judged true y p r r′ h = ap (judged true y p) (h refl)
+same-judged false y p r r′ h = refl
+
+module _ (s : List ℕ) (end p d t n k a : ℕ) (room : p + 16 ≤ end)
+    (et : t ≡ number s p) (en : n ≡ number s (p + 4)) (ek : k ≡ number s (p + 8)) (ea : a ≡ number s (p + 12)) where
+  -- the field behind Parameter, where the structure is sound
+  first-word : soundIn (partOf s end) p t n ≡ true → word (partOf s end) (p + n) (p + 12) ≡ a
+  first-word e =
+      let f = sound-facts s end p t n e in
+      word-part s end (p + n) (p + 12) (f .0) ∙ rw (le-leb (p + 12 + 4) (p + n) (omega (arith, f .1))) (sym ea)
+
   -- the structure, by the two tests
-  pub tested : (x y : Bool) → x ≡ soundIn (partOf s end) p t n → y ≡ (eqb t «MQCFT_GROUP» && ltb mostDepth d)
-      → structureAt (partOf s end) p d ≡ judged x y p (rowOf p d t n (number s (p + 8)) (word (partOf s end) (p + n) (p + 12)))
+  pub tested : (x y : Bool) (m : ℕ) → x ≡ soundIn (partOf s end) p t n → y ≡ (eqb t «MQCFT_GROUP» && ltb mostDepth d)
+      → m ≡ cond (eqb t «MQCFT_GROUP») a 0
+      → judged x y p (record { depth = d; place = p; kind = t; parameter = k; size = n; members = m }) ≡ structureAt (partOf s end) p d
   unfolding structureAt judge soundIn
-  tested x y ex ey =
+  tested x y m ex ey em =
       let e0 : num (partOf s end) p ≡ t = num-part s end p (omega arith) ∙ sym et in
       let e1 : num (partOf s end) (p + 4) ≡ n = num-part s end (p + 4) (omega arith) ∙ sym en in
-      rw (e0, e1, num-part s end (p + 8) (omega arith), ← ex, ← ey) refl
-
-  -- the row of a sound structure whose fields at 8 and 12 were read
-  pub row-read : (k a : ℕ) → k ≡ number s (p + 8) → a ≡ number s (p + 12) → (m : ℕ) → m ≡ cond (eqb t «MQCFT_GROUP») a 0
-      → soundIn (partOf s end) p t n ≡ true
-      → record { depth = d; place = p; kind = t; parameter = k; size = n; members = m }
-      ≡ rowOf p d t n (number s (p + 8)) (word (partOf s end) (p + n) (p + 12))
-  row-read k a ek ea m em e =
-      let f = sound-facts s end p t n e in
-      let w : word (partOf s end) (p + n) (p + 12) ≡ a =
-      word-part s end (p + n) (p + 12) (f .0) ∙ rw (le-leb (p + 12 + 4) (p + n) (omega (arith, f .1))) (sym ea) in
-      rw (em, ek, w) refl
+      let e2 : num (partOf s end) (p + 8) ≡ k = num-part s end (p + 8) (omega arith) ∙ sym ek in
+      rw (e0, e1, e2, ← ex, ← ey) (same-judged x y p _ _ (λ h. rw (em, first-word (sym ex ∙ h)) refl))

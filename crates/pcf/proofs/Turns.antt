@@ -67,9 +67,9 @@ came-low m p d n t q u e low =
     (λ x w eq eu. rw (eq, eu) (added-low t p (x .rows) (x .next) low (omega (arith, rows-room (walks m p d n (x .rows) (x .next) w)))))
 
 -- nor above the next place, once a row is counted
-pub raised-low : (m : Part) (p d : ℕ) (r : Row) → structureAt m p d ≡ accepted r → (t u : List ℕ) → u ≡ raised t (r .kind) → Low t p → Low u (p + r .size)
-raised-low m p d r e t u eu low =
-    rw (eu, raised-added t r) (added-low t p (r ∷ []) (p + r .size) low (omega (arith, (row-at m p d r e) .at-least)))
+pub raised-low : (m : Part) (p d : ℕ) (r : Row) → structureAt m p d ≡ accepted r → (t : List ℕ) → Low t p → Low (raised t (r .kind)) (p + r .size)
+raised-low m p d r e t low =
+    rw (raised-added t r) (added-low t p (r ∷ []) (p + r .size) low (omega (arith, (row-at m p d r e) .at-least)))
 
 -- no structure is due
 pub turn-none : (m : Part) (p d : ℕ) (t : List ℕ) → came p t ≡ tallied t (walk m p d 0)
@@ -79,21 +79,22 @@ module _ (m : Part) (p d n : ℕ) (t : List ℕ) (due : 0 < n) where
   pub turn-refused : (k q : ℕ) → structureAt m p d ≡ refused k q → tallied t (walk m p d n) ≡ fault k q
   turn-refused k q e = rw (unfolded m p d n due, e) refl
 
-  -- a row, with which the counts are u
-  module _ (r : Row) (e : structureAt m p d ≡ accepted r) (u : List ℕ) (counted : u ≡ raised t (r .kind)) where
-    abbrev inside : Result Walked
-    inside = walk m (p + r .size) (d + 1) (r .members)
+  module _ (r : Row) (e : structureAt m p d ≡ accepted r) where
+    -- what the walk inside comes to
+    abbrev inside : Tally
+    inside = tallied (raised t (r .kind)) (walk m (p + r .size) (d + 1) (r .members))
 
-    -- the walk inside came to q with the counts v
-    pub turn-on : (q : ℕ) (v : List ℕ) → came q v ≡ tallied u inside → tallied t (walk m p d n) ≡ tallied v (walk m q d (n - 1))
-    turn-on q v h =
-        told u inside q v h
-        (λ x w eq ev. rw (unfolded m p d n due, e, w, eq, ev, counted) (behind t r x (walk m (x .next) d (n - 1))))
+    -- it came to q with the counts u
+    pub turn-on : (q : ℕ) (u : List ℕ) → came q u ≡ inside → tallied t (walk m p d n) ≡ tallied u (walk m q d (n - 1))
+    turn-on q u h =
+        told (raised t (r .kind)) (walk m (p + r .size) (d + 1) (r .members)) q u h
+        (λ x w eq eu. rw (unfolded m p d n due, e, w, eq, eu) (behind t r x (walk m (x .next) d (n - 1))))
 
     -- it met a fault
-    pub turn-halt : (k q : ℕ) (v : List ℕ) → record { ended = refused k q; counts = v } ≡ tallied u inside → tallied t (walk m p d n) ≡ fault k q
-    turn-halt k q v h = rw (unfolded m p d n due, e, halted u inside k q v h) refl
+    pub turn-halt : (k q : ℕ) (u : List ℕ) → record { ended = refused k q; counts = u } ≡ inside → tallied t (walk m p d n) ≡ fault k q
+    turn-halt k q u h =
+        rw (unfolded m p d n due, e, halted (raised t (r .kind)) (walk m (p + r .size) (d + 1) (r .members)) k q u h) refl
 
     -- there is nothing inside
-    pub turn-plain : r .members ≡ 0 → tallied t (walk m p d n) ≡ tallied u (walk m (p + r .size) d (n - 1))
-    turn-plain z = turn-on (p + r .size) u (rw z (turn-none m (p + r .size) (d + 1) u))
+    pub turn-plain : r .members ≡ 0 → tallied t (walk m p d n) ≡ tallied (raised t (r .kind)) (walk m (p + r .size) d (n - 1))
+    turn-plain z = turn-on (p + r .size) (raised t (r .kind)) (rw z (turn-none m (p + r .size) (d + 1) (raised t (r .kind))))

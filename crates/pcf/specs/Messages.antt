@@ -5,7 +5,7 @@ use mathlib.Core.List.{List}
 use lib.ListN.{length}
 use Rattle.meaning.specs.Answer.{Result, accepted, andThen}
 use Rattle.meaning.specs.Structure.{Row}
-use Rattle.meaning.specs.Message.{tallyOf, Stepped as Step}
+use Rattle.meaning.specs.Message.{check, tallyOf, tally, Stepped as Step}
 use Rattle.answers.specs.Refusals.{refusal}
 use Rattle.pcf.specs.Rows.{rowOf}
 use Rattle.pcf.specs.declared.message.Checked.{Checked}
@@ -26,3 +26,8 @@ steppedOf (stepped.Refused r) = refusal r
 pub record Tallies (rows : Result (List Row)) (t : Tallied) : Type 0 where
   pub answer : checkedOf (t .answer) ≡ andThen rows (λ rs. accepted (length rs))
   pub counts : t .counts ≡ tallyOf rows
+
+-- t is the check's answer and the tally of the message
+pub record TalliedAs (buf : List ℕ) (len : ℕ) (t : Tallied) : Type 0 where
+  pub answer : checkedOf (t .answer) ≡ check buf len
+  pub counts : t .counts ≡ tally buf len

@@ -13,9 +13,9 @@ ghost use lib.ListN.{length};
 ghost use Rattle.meaning.specs.Bytes.{number};
 ghost use Rattle.meaning.specs.Answer.{andThen};
 ghost use Rattle.meaning.specs.Walk.{walk};
-ghost use Rattle.meaning.specs.Message.{headerOk, partOf, lengthOk, closed, scan, check as checkOf, step as stepOf};
+ghost use Rattle.meaning.specs.Message.{headerOk, partOf, lengthOk, closed, check, step};
 ghost use Rattle.answers.specs.Refusals.{refusal};
-ghost use Rattle.pcf.specs.Messages.{checkedOf, steppedOf, Tallies};
+ghost use Rattle.pcf.specs.Messages.{checkedOf, steppedOf, Tallies, TalliedAs};
 
 // The most bytes of a message, and the fewest: those of the header.
 const MOST_BYTES: usize = 65536;
@@ -115,7 +115,7 @@ fn structures(msg: &[u8], len: usize, count: u32) -> Tallied
 
 // TALLY: how many structures of each type a message has, beside the check's answer.
 pub fn tally(msg: &[u8], len: usize) -> Tallied
-    ensures { λ t. ⌜ Tallies (scan (now (msg .entry)) len) t ⌝ }
+    ensures { λ t. ⌜ TalliedAs (now (msg .entry)) len t ⌝ }
 {
     if length_ok(msg, len) {
         let count = number_at(msg, 32);
@@ -131,7 +131,7 @@ pub fn tally(msg: &[u8], len: usize) -> Tallied
 
 // CHECK: the number of structures of a message, or the refusal.
 pub fn check(msg: &[u8], len: usize) -> Checked
-    ensures { λ r. ⌜ checkedOf r ≡ checkOf (now (msg .entry)) len ⌝ }
+    ensures { λ r. ⌜ checkedOf r ≡ check (now (msg .entry)) len ⌝ }
 {
     let t = tally(msg, len);
     t.answer
@@ -140,7 +140,7 @@ pub fn check(msg: &[u8], len: usize) -> Checked
 // ONE STRUCTURE AT A TIME: the structure at any place, taken to have any depth, and the place behind it. For a group that is
 // the place of its first member.
 pub fn step(msg: &[u8], len: usize, at: Cursor) -> Stepped
-    ensures { λ r. ⌜ steppedOf r ≡ stepOf (now (msg .entry)) len (at .place) (at .depth) ⌝ }
+    ensures { λ r. ⌜ steppedOf r ≡ step (now (msg .entry)) len (at .place) (at .depth) ⌝ }
 {
     let place = at.place;
     if length_ok(msg, len) {

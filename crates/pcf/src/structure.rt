@@ -9,10 +9,10 @@ ghost use Prim.Native.Nat.{_-_, _≤_};
 ghost use lib.Dec.{eqb, ltb};
 ghost use lib.ListN.{length};
 ghost use Rattle.meaning.specs.Names.{«MQCFT_GROUP», mostDepth};
-ghost use Rattle.meaning.specs.Structure.{structureAt};
+ghost use Rattle.meaning.specs.Structure.{judged, structureAt};
 ghost use Rattle.meaning.specs.Message.{partOf};
 ghost use Rattle.pcf.specs.Rules.{Fields};
-ghost use Rattle.pcf.specs.Rows.{soundIn, foundOf};
+ghost use Rattle.pcf.specs.Rows.{soundIn, rowOf, foundOf};
 
 // The type of a group.
 const MQCFT_GROUP: u32 = 20;
@@ -73,8 +73,22 @@ fn members_of(kind: u32, first: u32) -> u32
     if kind == MQCFT_GROUP { first } else { 0 }
 }
 
-// The structure at `place`, of this depth, in a message that ends at `end`. Any place and depth may be asked for. A structure
-// that is not sound is 3, however deep.
+// 3 comes before 4: a structure that is not sound is 3, however deep.
+fn verdict(sound: bool, deep: bool, row: Row) -> Found
+    ensures { λ r. ⌜ foundOf r ≡ judged sound deep (row .place) (rowOf row) ⌝ }
+{
+    if sound {
+        if deep {
+            Found::Refused(Refusal::TooDeep(row.place))
+        } else {
+            Found::Structure(row)
+        }
+    } else {
+        Found::Refused(Refusal::BadStructure(row.place))
+    }
+}
+
+// The structure at `place`, of this depth, in a message that ends at `end`. Any place and depth may be asked for.
 pub fn structure_at(s: &[u8], end: usize, place: usize, depth: u32) -> Found
     requires { ⌜ end ≤ length (now s) ⌝ }
     ensures { λ r. ⌜ foundOf r ≡ structureAt (partOf (now (s .entry)) end) place depth ⌝ }
@@ -85,20 +99,14 @@ pub fn structure_at(s: &[u8], end: usize, place: usize, depth: u32) -> Found
     let kind = number_at(s, place);
     let size = number_at(s, place + 4);
     let first = number_at(s, place + 12);
-    if is_sound(s, end, place, kind, size, first) {
-        if too_deep(kind, depth) {
-            Found::Refused(Refusal::TooDeep(place))
-        } else {
-            Found::Structure(Row {
-                depth,
-                place,
-                kind,
-                parameter: number_at(s, place + 8),
-                size,
-                members: members_of(kind, first),
-            })
-        }
-    } else {
-        Found::Refused(Refusal::BadStructure(place))
-    }
+    let row = Row {
+        depth,
+        place,
+        kind,
+        parameter: number_at(s, place + 8),
+        size,
+        members: members_of(kind, first),
+    };
+    let sound = is_sound(s, end, place, kind, size, first);
+    verdict(sound, too_deep(kind, depth), row)
 }

@@ -3,12 +3,11 @@ use crate::structure::Found;
 use crate::structure::structure_at;
 use answers::Refusal;
 ghost use mathlib.Core.Path.{_≡_};
-ghost use Prim.Native.Nat.{_<_};
-ghost use lib.ListN.{getD, replicate};
+ghost use lib.ListN.{replicate};
 ghost use Rattle.meaning.specs.Message.{partOf, types};
 ghost use Rattle.meaning.specs.Walk.{walk};
 ghost use Rattle.answers.specs.Refusals.{refusal};
-ghost use Rattle.pcf.specs.Tallies.{raised, tallied, walkedOf, Walkable};
+ghost use Rattle.pcf.specs.Tallies.{tallied, walkedOf, Walkable};
 
 // Where a walk ended: at the place behind the last structure, or at a fault.
 pub enum Ended {
@@ -20,17 +19,6 @@ pub enum Ended {
 pub struct Walked {
     pub ended: Ended,
     pub tally: [u32; 27],
-}
-
-// One more of the type.
-fn raise(tally: [u32; 27], kind: u32) -> [u32; 27]
-    requires { ⌜ (kind < 27) × (getD tally kind 0 < 65536) ⌝ }
-    ensures { λ r. ⌜ r ≡ raised tally kind ⌝ }
-{
-    let mut t = tally;
-    let k = kind as usize;
-    t[k] = t[k] + 1;
-    t
 }
 
 // A walk that met a fault.
@@ -66,14 +54,12 @@ pub fn siblings(
                 return stopped(r);
             }
             Found::Structure(row) => {
-                let next = at + row.size as usize;
-                let more = raise(t, row.kind);
-                if row.members == 0 {
-                    at = next;
-                    t = more;
-                } else {
+                let kind = row.kind as usize;
+                t[kind] = t[kind] + 1;
+                at = at + row.size as usize;
+                if row.members != 0 {
                     // a group: its members come first
-                    let inner = siblings(s, end, next, depth + 1, row.members, more);
+                    let inner = siblings(s, end, at, depth + 1, row.members, t);
                     let ended = inner.ended;
                     match ended {
                         Ended::Refused(r) => {
