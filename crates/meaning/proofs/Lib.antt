@@ -27,3 +27,4 @@ pub mod Tallies
 pub mod Members
 pub mod Scans
 pub mod Writing
+pub mod Tops
