@@ -3,3 +3,4 @@ pub mod Tests
 pub mod Sheets
 pub mod Headers
 pub mod Composing
+pub mod Turns

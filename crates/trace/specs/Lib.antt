@@ -1,3 +1,4 @@
 pub mod Decisions
 pub mod Headers
 pub mod Composes
+pub mod Passing

@@ -2,6 +2,7 @@
 mod composition;
 mod decisions;
 mod header;
+mod passing;
 mod ranges;
 mod sheet;
 
