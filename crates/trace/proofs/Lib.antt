@@ -4,3 +4,4 @@ pub mod Sheets
 pub mod Headers
 pub mod Composing
 pub mod Turns
+pub mod Surveys

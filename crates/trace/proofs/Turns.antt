@@ -23,6 +23,8 @@ use Rattle.answers.specs.Refusals.{refusal}
 use Rattle.pcf.specs.declared.structure.Row.{Row as Found·Row}
 use Rattle.pcf.specs.declared.structure.Found.{Found}
 use Rattle.pcf.specs.declared.structure.Found.the-variants as found
+use Rattle.pcf.specs.declared.message.Stepped.{Stepped as Steps}
+use Rattle.pcf.specs.declared.message.Stepped.the-variants as steps
 use Rattle.pcf.specs.declared.walk.Walked.{Walked as Counts}
 use Rattle.pcf.specs.declared.walk.Ended.{Ended}
 use Rattle.trace.specs.Passing.{passed}
@@ -33,6 +35,12 @@ is-row e h = sym e ∙ ap foundOf h
 
 pub is-refusal : {f : Found} {x : Result Row} {q : Refusal} → foundOf f ≡ x → f ≡ found.Refused q → x ≡ refusal q
 is-refusal e h = sym e ∙ ap foundOf h
+
+pub is-step : {f : Steps} {x : Result Stepped} {r : Found·Row} {q : ℕ} → steppedOf f ≡ x → f ≡ steps.Structure r q → x ≡ accepted (record { row = rowOf r; next = q })
+is-step e h = sym e ∙ ap steppedOf h
+
+pub is-stop : {f : Steps} {x : Result Stepped} {q : Refusal} → steppedOf f ≡ x → f ≡ steps.Refused q → x ≡ refusal q
+is-stop e h = sym e ∙ ap steppedOf h
 
 -- counts that have not begun
 pub zeros-low : (n p k : ℕ) → getD (replicate n 0) k 0 ≤ p

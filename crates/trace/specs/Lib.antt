@@ -2,3 +2,4 @@ pub mod Decisions
 pub mod Headers
 pub mod Composes
 pub mod Passing
+pub mod Groups

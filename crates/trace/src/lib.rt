@@ -1,6 +1,7 @@
 // Trace-route messages: the sheet, the header, the eight attributes, Compose, Read, the decisions, and Activity groups.
 mod composition;
 mod decisions;
+mod groups;
 mod header;
 mod passing;
 mod ranges;
