@@ -5,3 +5,4 @@ pub mod Headers
 pub mod Composing
 pub mod Turns
 pub mod Surveys
+pub mod Marking

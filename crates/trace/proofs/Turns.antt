@@ -28,6 +28,7 @@ use Rattle.pcf.specs.declared.message.Stepped.the-variants as steps
 use Rattle.pcf.specs.declared.walk.Walked.{Walked as Counts}
 use Rattle.pcf.specs.declared.walk.Ended.{Ended}
 use Rattle.trace.specs.Passing.{passed}
+use Rattle.trace.proofs.Lists.{zeros-at}
 
 -- what the code has found, in the meaning's terms
 pub is-row : {f : Found} {x : Result Row} {r : Found·Row} → foundOf f ≡ x → f ≡ found.Structure r → x ≡ accepted (rowOf r)
@@ -44,9 +45,7 @@ is-stop e h = sym e ∙ ap steppedOf h
 
 -- counts that have not begun
 pub zeros-low : (n p k : ℕ) → getD (replicate n 0) k 0 ≤ p
-zeros-low zero p k = omega arith
-zeros-low (suc n) p zero = omega arith
-zeros-low (suc n) p (suc k) = zeros-low n p k
+zeros-low n p k = rw (zeros-at n k) (omega arith)
 
 -- where a walk ends
 abbrev pub endOf : Result Walked → Result ℕ

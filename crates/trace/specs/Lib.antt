@@ -3,3 +3,4 @@ pub mod Headers
 pub mod Composes
 pub mod Passing
 pub mod Groups
+pub mod Marks

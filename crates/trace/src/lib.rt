@@ -3,6 +3,7 @@ mod composition;
 mod decisions;
 mod groups;
 mod header;
+mod members;
 mod passing;
 mod ranges;
 mod sheet;
