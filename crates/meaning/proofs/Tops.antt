@@ -64,13 +64,14 @@ tiles-from m p (x ∷ xs) q h r (here e) =
     omega (arith, h .0 .at-place)
 tiles-from m p (x ∷ xs) q h r (there i) = omega (arith, tiles-from m (p + x .size) xs q (h .1) r i)
 
--- WHAT A TOP-LEVEL STRUCTURE IS: its row at its place, and the walk over what is inside it, which ends in the part
-pub record TopAt (m : Part) (from : ℕ) (t : Top) : Type 0 where
+-- WHAT A TOP-LEVEL STRUCTURE IS: its row at its place, and the walk over what is inside it, which ends before `to`
+pub record TopAt (m : Part) (from to : ℕ) (t : Top) : Type 0 where
   pub next : ℕ
   pub there : structureAt m (t .row .place) 1 ≡ accepted (t .row)
   pub behind : from ≤ t .row .place
   pub within : Walks m (t .row .place + t .row .size) 2 (t .row .members) (t .inside) next
   pub fills : t .row .place + (t .row .size + sizeOf (t .inside)) ≡ next
+  pub ends : next ≤ to
 
 pub data All (P : Top → Type 0) : List Top → Type 0 where
   empty : All P []
@@ -94,10 +95,10 @@ all-as : {P Q : Top → Type 0} {ts : List Top} → ((t : Top) → P t → Q t) 
 all-as f empty = empty
 all-as f (also {t} x xs) = also (f t x) (all-as f xs)
 
-from-lower : (m : Part) (a b : ℕ) (t : Top) → a ≤ b → TopAt m b t → TopAt m a t
-from-lower m a b t h x = record { next = x .next; there = x .there; behind = omega (arith, x .behind); within = x .within; fills = x .fills }
+from-lower : (m : Part) (a b q : ℕ) (t : Top) → a ≤ b → TopAt m b q t → TopAt m a q t
+from-lower m a b q t h x = record { next = x .next; there = x .there; behind = omega (arith, x .behind); within = x .within; fills = x .fills; ends = x .ends }
 
-pub tops-at : {m : Part} {p n : ℕ} {rows : List Row} {q : ℕ} → Walks m p 1 n rows q → All (TopAt m p) (tops rows)
+pub tops-at : {m : Part} {p n : ℕ} {rows : List Row} {q : ℕ} → Walks m p 1 n rows q → All (TopAt m p q) (tops rows)
 unfolding tops
 tops-at none = empty
 tops-at {m} (more {p} {d} {n} {p₁} {q} {r} {rs₁} {rs₂} t w₁ w₂) =
@@ -105,12 +106,14 @@ tops-at {m} (more {p} {d} {n} {p₁} {q} {r} {rs₁} {rs₂} t w₁ w₂) =
     let e = tops-next r rs₁ rs₂ (sym (g .at-depth)) (λ x i. walks-depth w₁ x i) (until-walk w₂) in
     let k = tiles-size m (p + r .size) rs₁ p₁ (tiles w₁) in
     let l = walks-le w₁ in
-    let one : TopAt m p (record { row = r; inside = rs₁ }) =
+    let l₂ = walks-le w₂ in
+    let one : TopAt m p q (record { row = r; inside = rs₁ }) =
     record {
       next = p₁;
       there = rw (g .at-place) at t;
       behind = omega (arith, g .at-place);
       within = rw (g .at-place) at w₁;
       fills = omega (arith, g .at-place);
+      ends = omega arith;
     } in
-    rw e (also one (all-as (λ u x. from-lower m p p₁ u (omega arith) x) (tops-at w₂)))
+    rw e (also one (all-as (λ u x. from-lower m p p₁ q u (omega arith) x) (tops-at w₂)))

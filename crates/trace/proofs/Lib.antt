@@ -6,3 +6,4 @@ pub mod Composing
 pub mod Turns
 pub mod Surveys
 pub mod Marking
+pub mod Locating

@@ -1,6 +1,6 @@
 -- The marks of the attributes, one direct member after the other; what they come to is what the meaning asks.
 -- Assumes nothing.
-use mathlib.Core.Path.{_≡_, refl, sym, ap, _∙_}
+use mathlib.Core.Path.{_≡_, refl, sym, ap, _∙_, subst}
 use mathlib.Core.Bool.{Bool, true, false, cond, _&&_}
 use mathlib.Core.List.{List, [], _∷_, _++_, map}
 use Prim.Native.Nat.{ℕ, zero, suc, _+_, _-_, _≤_, _<_}
@@ -15,16 +15,17 @@ use Rattle.meaning.specs.Answer.{Result, accepted, refused, andThen, consIf}
 use Rattle.meaning.specs.Structure.{Row}
 use Rattle.meaning.specs.Walk.{Walked, walked, walk}
 use Rattle.meaning.specs.Message.{partOf}
-use Rattle.meaning.specs.Trace.{directIn, named, oneInteger, eachOnce, placeOfFirst, placesOf, valueAt, valuesAt}
+use Rattle.meaning.specs.Trace.{isDirect, directIn, named, oneInteger, eachOnce, placeOfFirst, placesOf, valueAt, valuesAt}
 use Rattle.meaning.proofs.Tests.{clash, and-true}
 use Rattle.meaning.proofs.Structures.{RowAt, row-at}
 use Rattle.meaning.proofs.Walks.{Walks, walks, walks-depth, In, here, there}
 use Rattle.meaning.proofs.Fuel.{walk-zero}
 use Rattle.meaning.proofs.Parts.{num-part}
-use Rattle.meaning.proofs.Attributes.{getD-map}
+use Rattle.meaning.proofs.Attributes.{getD-map, once-at}
 use Rattle.meaning.proofs.Tops.{direct-next}
 use Rattle.trace.specs.Marks.{onto, noted, notedIn, markFrom, Marked, allFound, InReach}
 use Rattle.trace.specs.Passing.{passed}
+use Rattle.trace.specs.Locations.{rowsIn}
 use Rattle.trace.proofs.Lists.{rest-none, rest-next}
 use Rattle.trace.proofs.Turns.{Over, walk-halt, walk-over}
 
@@ -92,9 +93,13 @@ positive r h = go (eqb (r .kind) «MQCFT_INTEGER»)
     go true = omega arith
     go false = omega arith
 
+-- what holds of every row's place
+abbrev pub Every : (ℕ → Type 0) → List Row → Type 0
+Every P rows = (r : Row) → In r rows → P (r .place)
+
 -- rows that stand behind the place 1
 abbrev pub Placed : List Row → Type 0
-Placed rows = (r : Row) → In r rows → 1 < r .place
+Placed rows = Every (λ p. 1 < p) rows
 
 -- exactly one and an integer: the mark is its place; otherwise it is no place
 mark-once : (rows : List Row) → Placed rows → (ltb 1 (ontoAll 0 rows) ≡ oneInteger rows) × (oneInteger rows ≡ true → ontoAll 0 rows ≡ placeOfFirst rows)
@@ -105,22 +110,33 @@ mark-once (r ∷ q ∷ rs) h =
     let e : ontoAll (onto (onto 0 r) q) rs ≡ 1 = ap (λ (k : ℕ). ontoAll k rs) (onto-second (onto 0 r) q (positive r (h r (here refl)))) ∙ fault-stays rs in
     (ap (ltb 1) e, λ z. absurd (clash (cc)))
 
-placed-named : (id : ℕ) (rows : List Row) → Placed rows → Placed (named id rows)
+every-if : (P : ℕ → Type 0) (b : Bool) (x : Row) (xs rest : List Row) → Every P (x ∷ xs) → Every P rest → Every P (consIf b x rest)
+every-if P true x xs rest h ih r (here e) = h r (here e)
+every-if P true x xs rest h ih r (there i) = ih r i
+every-if P false x xs rest h ih r i = ih r i
+
+pub every-named : (P : ℕ → Type 0) (id : ℕ) (rows : List Row) → Every P rows → Every P (named id rows)
 unfolding named
-placed-named id [] h = h
-placed-named id (r ∷ rs) h = go (eqb (r .parameter) id) (placed-named id rs (λ x i. h x (there i)))
-  where
-    go : (b : Bool) → Placed (named id rs) → Placed (consIf b r (named id rs))
-    go true ih x (here e) = h x (here e)
-    go true ih x (there i) = ih x i
-    go false ih x i = ih x i
+every-named P id [] h = h
+every-named P id (x ∷ xs) h = every-if P (eqb (x .parameter) id) x xs (named id xs) h (every-named P id xs (λ r i. h r (there i)))
+
+pub every-direct : (P : ℕ → Type 0) (rows : List Row) → Every P rows → Every P (directIn rows)
+unfolding directIn
+every-direct P [] h = h
+every-direct P (x ∷ xs) h = every-if P (isDirect x) x xs (directIn xs) h (every-direct P xs (λ r i. h r (there i)))
+
+pub once-place : (P : ℕ → Type 0) (rows : List Row) → oneInteger rows ≡ true → Every P rows → P (placeOfFirst rows)
+unfolding oneInteger placeOfFirst
+once-place P [] e h = absurd (clash (cc))
+once-place P (r ∷ []) e h = h r (here refl)
+once-place P (r ∷ q ∷ rs) e h = absurd (clash (cc))
 
 module _ (rows : List Row) (placed : Placed rows) where
   pub mark-test : (id : ℕ) → ltb 1 (notedIn id 0 rows) ≡ oneInteger (named id rows)
-  mark-test id = ap (ltb 1) (noted-named id 0 rows) ∙ mark-once (named id rows) (placed-named id rows placed) .0
+  mark-test id = ap (ltb 1) (noted-named id 0 rows) ∙ mark-once (named id rows) (every-named (λ p. 1 < p) id rows placed) .0
 
   pub mark-place : (id : ℕ) → oneInteger (named id rows) ≡ true → notedIn id 0 rows ≡ placeOfFirst (named id rows)
-  mark-place id e = noted-named id 0 rows ∙ mark-once (named id rows) (placed-named id rows placed) .1 e
+  mark-place id e = noted-named id 0 rows ∙ mark-once (named id rows) (every-named (λ p. 1 < p) id rows placed) .1 e
 
   -- EACH ONCE: all marks are places, and then they are the meaning's
   pub marks-once : (sheet : List ℕ) → allFound (map (λ id. notedIn id 0 rows) sheet) ≡ eachOnce sheet rows
@@ -136,11 +152,36 @@ module _ (rows : List Row) (placed : Placed rows) where
       rw (mark-place id (f .0), marks-places ids (f .1)) refl
 
 -- MARKS AFTER A WALK, as a list
-pub marks-list : (sheet : List ℕ) (w : Walked) (marks : List ℕ) → length sheet ≡ 8 → Marked sheet (accepted w) marks → marks ≡ map (λ id. notedIn id 0 (directIn (w .rows))) sheet
-marks-list sheet w marks eight h =
-    let f : ℕ → ℕ = λ id. notedIn id 0 (directIn (w .rows)) in
-    let n = h .eight in
-    ext-getD 0 marks (map f sheet) (n ∙ sym (length-map sheet f ∙ eight)) (λ j i. h .each j (omega arith) ∙ sym (getD-map f sheet j (omega arith)))
+mark-rows : (id : ℕ) (w : Result Walked) → markFrom id 0 w ≡ notedIn id 0 (directIn (rowsIn w))
+unfolding notedIn directIn
+mark-rows id (accepted w) = refl
+mark-rows id (refused k p) = refl
+
+module _ (sheet : List ℕ) (eight : length sheet ≡ 8) (w : Result Walked) (marks : List ℕ) (h : Marked sheet w marks) where
+  abbrev members : List Row
+  members = directIn (rowsIn w)
+
+  marks-list : marks ≡ map (λ id. notedIn id 0 members) sheet
+  marks-list =
+      let f : ℕ → ℕ = λ id. notedIn id 0 members in
+      let n = h .eight in
+      ext-getD 0 marks (map f sheet) (n ∙ sym (length-map sheet f ∙ eight))
+      (λ j i. h .each j (omega arith) ∙ mark-rows (getD sheet j 0) w ∙ sym (getD-map f sheet j (omega arith)))
+
+  module _ (placed : Placed members) where
+    pub found-once : allFound marks ≡ eachOnce sheet members
+    found-once = ap allFound marks-list ∙ marks-once members placed sheet
+
+    module _ (once : eachOnce sheet members ≡ true) where
+      pub found-places : marks ≡ placesOf sheet members
+      found-places = marks-list ∙ marks-places members placed sheet once
+
+      -- what holds of every member's place holds of the marks
+      pub found-every : (P : ℕ → Type 0) → Every P members → (j : ℕ) → j < 8 → P (getD marks j 0)
+      found-every P every j i =
+          let id : ℕ = getD sheet j 0 in
+          let o = once-at sheet members once j (omega arith) in
+          subst P (sym (h .each j i ∙ mark-rows id w ∙ mark-place members placed id o)) (once-place P (named id members) o (every-named P id members every))
 
 -- ONE TURN over direct members
 pub mark-end : (m : Part) (p id mark : ℕ) → markFrom id mark (walk m p 2 0) ≡ mark

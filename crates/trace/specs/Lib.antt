@@ -4,3 +4,4 @@ pub mod Composes
 pub mod Passing
 pub mod Groups
 pub mod Marks
+pub mod Locations
