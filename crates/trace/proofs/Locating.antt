@@ -19,12 +19,13 @@ use Rattle.meaning.specs.Activity.{noGroup}
 use Rattle.meaning.specs.Compose.{headerFields, traceHeaderFields}
 use Rattle.meaning.proofs.Tests.{clash, and-true, and-false}
 use Rattle.meaning.proofs.Structures.{RowAt}
-use Rattle.meaning.proofs.Walks.{Walks, walks, walk-of, In, in-nil, tiles, tiles-row}
+use Rattle.meaning.proofs.Scans.{scan-walk}
+use Rattle.meaning.proofs.Walks.{Walks, walks, walks-as, walk-of, In, in-nil, tiles, tiles-row}
 use Rattle.meaning.proofs.Parts.{num-part}
 use Rattle.meaning.proofs.Tops.{tiles-from, TopAt, all-at, all-groups, tops-at}
 use Rattle.trace.specs.Headers.{fieldsOf, startsWith}
 use Rattle.trace.specs.Groups.{groupOf, counted, Surveyed, surveyed}
-use Rattle.trace.specs.Locations.{rowsIn, stop, found, attributesBy, attributesIn, judgedIn, Outcome, traced}
+use Rattle.trace.specs.Locations.{rowsIn, stop, found, attributesBy, attributesIn, judgedIn, Outcome, traced, Attributes, located}
 use Rattle.trace.specs.declared.groups.Group.{Group}
 use Rattle.trace.specs.declared.groups.Counted.{Counted}
 use Rattle.trace.specs.declared.header.Kind.the-variants.{Trace as trace}
@@ -172,3 +173,88 @@ module _ (m : Part) (p count : ℕ) (rows : List Row) (tree : Walks m p 1 count 
           (attributesIn sheet m (counted «MQGACF_TRACE_ROUTE» 0 rows .group .inside) (counted «MQGACF_TRACE_ROUTE» 0 rows .group .members) (counted «MQGACF_ACTIVITY» n rows .group))
       go true e = members-read sheet n (directMembers (traceRoutes rows)) ∙ rw (route-members (eqb-true (length (traceRoutes rows)) 1 e)) refl
       go false e = refl
+
+-- WHAT A SURVEY TELLS of the walk that it is of
+record Told (n : ℕ) (v : Result Walked) (s : Surveyed) (q : ℕ) : Type 0 where
+  pub rows : List Row
+  pub over : v ≡ walked rows q
+  pub routes : s .routes ≡ counted «MQGACF_TRACE_ROUTE» 0 rows
+  pub activities : s .activities ≡ counted «MQGACF_ACTIVITY» n rows
+
+told : (n : ℕ) (v : Result Walked) (s : Surveyed) (q : ℕ) → s ≡ surveyed n v → s .ended ≡ accepted q → Told n v s q
+told n (accepted w) s q e f =
+    let g : _≡_ {A = Result ℕ} (accepted (w .next)) (accepted q) = sym (ap (λ (x : Surveyed). x .ended) e) ∙ f in
+    let h : w .next ≡ q = cc in
+    record {
+      rows = w .rows;
+      over = ap (walked (w .rows)) h;
+      routes = ap (λ (x : Surveyed). x .routes) e;
+      activities = ap (λ (x : Surveyed). x .activities) e;
+    }
+told n (refused k p) s q e f =
+    let g : _≡_ {A = Result ℕ} (refused k p) (accepted q) = sym (ap (λ (x : Surveyed). x .ended) e) ∙ f in
+    absurd (clash (cc))
+
+told-refused : (n : ℕ) (v : Result Walked) (s : Surveyed) (k q : ℕ) → s ≡ surveyed n v → s .ended ≡ refused k q → v ≡ refused k q
+told-refused n (accepted w) s k q e f =
+    let g : _≡_ {A = Result ℕ} (accepted (w .next)) (refused k q) = sym (ap (λ (x : Surveyed). x .ended) e) ∙ f in
+    absurd (clash (cc))
+told-refused n (refused k′ p) s k q e f =
+    let g : _≡_ {A = Result ℕ} (refused k′ p) (refused k q) = sym (ap (λ (x : Surveyed). x .ended) e) ∙ f in
+    cc
+
+-- READ, by the tests that come first
+module _ (tm : Terms) (buf : List ℕ) (len n : ℕ) where
+  pub trace-unsheeted : sheetOk (tm .sheet) ≡ false → stop badSheet 0 ≡ traced n (readTrace tm buf len)
+  unfolding readTrace
+  trace-unsheeted e = rw e refl
+
+  module _ (ok : sheetOk (tm .sheet) ≡ true) where
+    pub trace-unscanned : (k q : ℕ) → scan buf len ≡ refused k q → stop k q ≡ traced n (readTrace tm buf len)
+    unfolding readTrace
+    trace-unscanned k q e = rw (ok, e) refl
+
+    module _ (sized : lengthOk buf len ≡ true) (header : headerOk (partOf buf len) ≡ true) (count : ℕ) (read : count ≡ number buf 32)
+        (s : Surveyed) (e : s ≡ surveyed n (walk (partOf buf len) 36 1 count)) where
+      scanned : scan buf len ≡ andThen (walk (partOf buf len) 36 1 count) (closed len)
+      scanned = scan-walk buf len sized header count read
+
+      pub trace-halt : (k q : ℕ) → s .ended ≡ refused k q → stop k q ≡ traced n (readTrace tm buf len)
+      trace-halt k q f = trace-unscanned k q (scanned ∙ rw (told-refused n (walk (partOf buf len) 36 1 count) s k q e f) refl)
+
+      module _ (q : ℕ) (f : s .ended ≡ accepted q) where
+        t : Told n (walk (partOf buf len) 36 1 count) s q
+        t = told n (walk (partOf buf len) 36 1 count) s q e f
+
+        pub trace-left : (q ≡ len → ⊥) → stop leftOver q ≡ traced n (readTrace tm buf len)
+        unfolding closed
+        trace-left d = trace-unscanned leftOver q (scanned ∙ rw (t .over, ne-eqb q len d) refl)
+
+        module _ (z : q ≡ len) where
+          tree : Walks (partOf buf len) 36 1 count (t .rows) len
+          tree = walks-as refl refl z (walks (partOf buf len) 36 1 count (t .rows) q (t .over))
+
+          whole-rows : scan buf len ≡ accepted (t .rows)
+          unfolding closed
+          whole-rows = scanned ∙ ap (λ (x : Result Walked). andThen x (closed len)) (t .over) ∙ rw (eq-eqb q len z) refl
+
+          whole-read : readTrace tm buf len ≡ readRows (tm .sheet) (partOf buf len) (t .rows)
+          unfolding readTrace
+          whole-read = rw ok (ap (λ (x : Result (List Row)). andThen x (readRows (tm .sheet) (partOf buf len))) whole-rows)
+
+          pub trace-whole : judgedIn (tm .sheet) (partOf buf len) (s .routes) (s .activities .group) ≡ traced n (readTrace tm buf len)
+          trace-whole =
+              ap (λ (x : Counted). judgedIn (tm .sheet) (partOf buf len) x (s .activities .group)) (t .routes)
+              ∙ ap (λ (x : Counted). judgedIn (tm .sheet) (partOf buf len) (counted «MQGACF_TRACE_ROUTE» 0 (t .rows)) (x .group)) (t .activities)
+              ∙ sym (rows-read (partOf buf len) 36 count (t .rows) tree (tm .sheet) n) ∙ ap (traced n) (sym whole-read)
+
+          pub route-behind : s .routes .count ≡ 1 → 2 ≤ s .routes .group .inside
+          unfolding counted
+          route-behind =
+              subst (λ (x : Counted). x .count ≡ 1 → 2 ≤ x .group .inside) (sym (t .routes))
+              (λ i. omega (arith, nth-behind (partOf buf len) 36 count (t .rows) tree «MQGACF_TRACE_ROUTE» 0 (omega arith)))
+
+-- without the Activity group
+pub located-traced : (n : ℕ) (r : Result Trace) (o : Outcome) → o ≡ traced n r → record { answer = o .answer; places = o .places; values = o .values } ≡ located r
+located-traced n (accepted t) o e = ap (λ (x : Outcome). record { answer = x .answer; places = x .places; values = x .values }) e
+located-traced n (refused k p) o e = ap (λ (x : Outcome). record { answer = x .answer; places = x .places; values = x .values }) e

@@ -42,15 +42,6 @@ reach c e j h =
     found-every (c .before .before .before .args .sheet) (omega arith) _ _ (c .before .marks-of .ensures) (placed c) (once c true (not-false _ e))
     (λ q. (c .before .before .before .args .inside ≤ q) × (q + 16 ≤ c .before .before .before .args .len)) (every-member (part c) (c .before .before .before .args .inside) (c .before .before .before .args .members)) j h .1
 
-marks-of-requires : tie.Need-marks-of-requires
-marks-of-requires c κs = search needs
-
-all-found-requires : tie.Need-all-found-requires
-all-found-requires c κs = search needs
-
-stopped-requires : tie.Need-stopped-requires
-stopped-requires c κs = search needs
-
 returns : tie.Need-returns
 returns c =
     let k = c .before .before in
@@ -59,12 +50,6 @@ returns c =
 
 values-at-requires : tie.Need-values-at-requires
 values-at-requires c κs = (c .before .before .before .before .pre .there, reach (c .before) (c .if1 .left))
-
-in-range-requires : tie.Need-in-range-requires
-in-range-requires c κs = search needs
-
-stopped-requires-2 : tie.Need-stopped-requires-2
-stopped-requires-2 c κs = search needs
 
 returns-2 : tie.Need-returns-2
 returns-2 c =
@@ -85,12 +70,12 @@ pub attributes-spec : {M : Type 1} → statement M
 attributes-spec =
     tie.close
     (tie.spec
-    marks-of-requires
-    all-found-requires
-    stopped-requires
+    (λ c κs. search needs)
+    (λ c κs. search needs)
+    (λ c κs. search needs)
     returns
     values-at-requires
-    in-range-requires
-    stopped-requires-2
+    (λ c κs. search needs)
+    (λ c κs. search needs)
     returns-2
     returns-3)

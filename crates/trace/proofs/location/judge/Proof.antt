@@ -19,28 +19,16 @@ header c b e =
     let s = c .before .before .before in
     some-count (now (s .args .msg)) (s .args .len) (s .pre .least) (s .pre .sound) (s .args .count) (s .pre .read) (c .before .if1 .left) b (sym (c .has-header .ensures) ∙ e)
 
-stopped-requires : tie.Need-stopped-requires
-stopped-requires c κs = search needs
-
 returns : tie.Need-returns
 returns c =
     let s = c .before .before .before in
     c .stopped .ensures
     ∙ judge-header (s .args .sheet) _ (s .args .routes) (s .args .activity) (no-count (now (s .args .msg)) (s .args .len) (s .pre .least) (s .pre .sound) (s .args .count) (s .pre .read) (c .before .if1 .taken))
 
-has-header-requires : tie.Need-has-header-requires
-has-header-requires c κs = search needs
-
-stopped-requires-2 : tie.Need-stopped-requires-2
-stopped-requires-2 c κs = search needs
-
 returns-2 : tie.Need-returns-2
 returns-2 c =
     let s = c .before .before .before .before .before in
     c .stopped2 .ensures ∙ judge-header (s .args .sheet) _ (s .args .routes) (s .args .activity) (header (c .before .before) false (not-true _ (c .before .if2 .taken)))
-
-stopped-requires-3 : tie.Need-stopped-requires-3
-stopped-requires-3 c κs = search needs
 
 returns-3 : tie.Need-returns-3
 returns-3 c =
@@ -59,12 +47,12 @@ pub judge-spec : {M : Type 1} → statement M
 judge-spec =
     tie.close
     (tie.spec
-    stopped-requires
+    (λ c κs. search needs)
     returns
-    has-header-requires
-    stopped-requires-2
+    (λ c κs. search needs)
+    (λ c κs. search needs)
     returns-2
-    stopped-requires-3
+    (λ c κs. search needs)
     returns-3
     attributes-requires
     returns-4)

@@ -1,17 +1,17 @@
+-- `location::locate` meets its contract.
+-- Assumes nothing.
+use denote.Ref.{now}
+use Rattle.meaning.specs.Trace.{readTrace}
+use Rattle.trace.specs.Composes.{termsOf}
+use Rattle.trace.proofs.Locating.{located-traced}
 use borrow.Author.Needs.{needs}
 use Rattle.trace.proofs.location.locate.Statement.{statement}
 use Rattle.trace.proofs.location.locate.Tie as tie
-use Rattle.trace.proofs.location.locate.Reads as reads
-use Rattle.trace.proofs.location.locate.Lts as lts
-use Rattle.trace.proofs.location.trace_of.Reads as trace-of-reads
 
--- src/location.rt:145:9
-trace-of-requires : tie.Need-trace-of-requires
-trace-of-requires c κs = search needs
-
--- src/location.rt:142:1
 returns : tie.Need-returns
-returns c = ?
+returns c =
+    let a = c .before .before .before .before .args in
+    located-traced 0 (readTrace (termsOf (a .sheet)) (now (a .msg)) (a .len)) _ (c .before .before .trace-of .ensures)
 
 pub locate-spec : {M : Type 1} → statement M
-locate-spec = tie.close (tie.spec trace-of-requires returns)
+locate-spec = tie.close (tie.spec (λ c κs. search needs) returns)

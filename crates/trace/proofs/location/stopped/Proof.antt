@@ -5,11 +5,8 @@ use borrow.Author.Needs.{needs}
 use Rattle.trace.proofs.location.stopped.Statement.{statement}
 use Rattle.trace.proofs.location.stopped.Tie as tie
 
-no-group-requires : tie.Need-no-group-requires
-no-group-requires c κs = search needs
-
 returns : tie.Need-returns
 returns c = rw (c .no-group .ensures) refl
 
 pub stopped-spec : {M : Type 1} → statement M
-stopped-spec = tie.close (tie.spec no-group-requires returns)
+stopped-spec = tie.close (tie.spec (λ c κs. search needs) returns)

@@ -1,111 +1,105 @@
+-- `location::trace_of` meets its contract: the tests are Read's, in its order.
+-- Assumes nothing.
+use mathlib.Core.Path.{_≡_, refl, sym, ap, _∙_}
+use mathlib.Core.Bool.{Bool, true, false}
+use native.Mathlib.Omega.{arith}
+use borrow.Author.Tests.{not-true, not-false}
+use denote.Ref.{now}
+use Rattle.meaning.specs.Message.{partOf, headerOk, lengthOk}
+use Rattle.meaning.specs.Trace.{sheetOk}
+use Rattle.meaning.proofs.Scans.{Sized, sized, header-part, scan-unsized, scan-unheaded}
+use Rattle.pcf.specs.Tallies.{endedOf}
+use Rattle.trace.specs.Composes.{termsOf}
+use Rattle.trace.proofs.Locating.{trace-unsheeted, trace-unscanned, trace-halt, trace-left, trace-whole, route-behind}
 use borrow.Author.Needs.{needs}
 use Rattle.trace.proofs.location.trace_of.Statement.{statement}
 use Rattle.trace.proofs.location.trace_of.Tie as tie
-use Rattle.trace.proofs.location.trace_of.Reads as reads
-use Rattle.trace.proofs.location.trace_of.Lts as lts
-use Rattle.pcf.proofs.header_ok.Reads as header-ok-reads
-use Rattle.pcf.proofs.length_ok.Reads as length-ok-reads
-use Rattle.trace.proofs.groups.survey.Reads as survey-reads
-use Rattle.trace.proofs.location.judge.Reads as judge-reads
-use Rattle.trace.proofs.location.stopped.Reads as stopped-reads
-use Rattle.trace.proofs.sheet.sheet_ok.Reads as sheet-ok-reads
-use Rattle.wire.proofs.number_at.Reads as number-at-reads
 
--- src/location.rt:116:9
-sheet-ok-requires : tie.Need-sheet-ok-requires
-sheet-ok-requires c κs = search needs
+-- the sheet is sound
+sheeted : (c : tie.Else1) → sheetOk (c .before .before .before .args .sheet) ≡ true
+sheeted c = sym (c .before .sheet-ok .ensures) ∙ not-false _ (c .if1 .left)
 
--- src/location.rt:117:9
-stopped-requires : tie.Need-stopped-requires
-stopped-requires c κs = search needs
+-- the length is in order
+measured : (c : tie.Else2) → lengthOk (now (c .before .before .before .before .before .args .msg)) (c .before .before .before .before .before .args .len) ≡ true
+measured c = sym (c .before .length-ok .ensures) ∙ not-false _ (c .if2 .left)
 
--- src/location.rt:117:9
+-- the header is as the test says
+header : (c : tie.After-header-ok) (b : Bool) → c .header-ok .result ≡ b → headerOk (partOf (now (c .before .before .before .before .before .before .before .args .msg)) (c .before .before .before .before .before .before .before .args .len)) ≡ b
+header c b e = header-part (now (c .before .before .before .before .before .before .before .args .msg)) (c .before .before .before .before .before .before .before .args .len) (sized _ _ (measured (c .before .before)) .least) ∙ sym (c .header-ok .ensures) ∙ e
+
 returns : tie.Need-returns
-returns c = ?
+returns c =
+    let a = c .before .before .before .before .args in
+    c .stopped .ensures ∙ trace-unsheeted (termsOf (a .sheet)) (now (a .msg)) (a .len) (a .n) (sym (c .before .before .sheet-ok .ensures) ∙ not-true _ (c .before .if1 .taken))
 
--- src/location.rt:119:9
-length-ok-requires : tie.Need-length-ok-requires
-length-ok-requires c κs = search needs
-
--- src/location.rt:120:9
-stopped-requires-2 : tie.Need-stopped-requires-2
-stopped-requires-2 c κs = search needs
-
--- src/location.rt:120:9
 returns-2 : tie.Need-returns-2
-returns-2 c = ?
+returns-2 c =
+    let a = c .before .before .before .before .before .before .args in
+    c .stopped2 .ensures
+    ∙ trace-unscanned (termsOf (a .sheet)) (now (a .msg)) (a .len) (a .n) (sheeted (c .before .before .before)) _ _ (scan-unsized (now (a .msg)) (a .len) (sym (c .before .before .length-ok .ensures) ∙ not-true _ (c .before .if2 .taken)))
 
--- src/location.rt:122:9
 number-at-requires : tie.Need-number-at-requires
-number-at-requires c κs = ?
+number-at-requires c κs = omega (arith, sized _ _ (measured c) .there, sized _ _ (measured c) .least)
 
--- src/location.rt:123:9
 header-ok-requires : tie.Need-header-ok-requires
-header-ok-requires c κs = ?
+header-ok-requires c κs = (omega (arith, sized _ _ (measured (c .before)) .there, sized _ _ (measured (c .before)) .least), c .number-at .ensures)
 
--- src/location.rt:124:9
-stopped-requires-3 : tie.Need-stopped-requires-3
-stopped-requires-3 c κs = search needs
-
--- src/location.rt:124:9
 returns-3 : tie.Need-returns-3
-returns-3 c = ?
+returns-3 c =
+    let a = c .before .before .before .before .before .before .before .before .before .args in
+    c .stopped3 .ensures
+    ∙ trace-unscanned (termsOf (a .sheet)) (now (a .msg)) (a .len) (a .n) (sheeted (c .before .before .before .before .before .before)) _ _ (scan-unheaded (now (a .msg)) (a .len) (measured (c .before .before .before .before)) (header (c .before .before) false (not-true _ (c .before .if3 .taken))))
 
--- src/location.rt:126:9
 survey-requires : tie.Need-survey-requires
-survey-requires c κs = ?
+survey-requires c κs = (sized _ _ (measured (c .before .before .before)) .there, sized _ _ (measured (c .before .before .before)) .most)
 
--- src/location.rt:129:24
-enum-known-ended : tie.Need-enum-known-ended
-enum-known-ended c = search needs
-
--- src/location.rt:129:30
-stopped-requires-4 : tie.Need-stopped-requires-4
-stopped-requires-4 c κs = search needs
-
--- src/location.rt:130:23
-enum-known-ended-2 : tie.Need-enum-known-ended-2
-enum-known-ended-2 c = search needs
-
--- src/location.rt:132:17
-stopped-requires-5 : tie.Need-stopped-requires-5
-stopped-requires-5 c κs = search needs
-
--- src/location.rt:132:17
 returns-4 : tie.Need-returns-4
-returns-4 c = ?
+returns-4 c =
+    let a = c .before .before .before .before .before .before .before .before .before .before .before .before .before .before .args in
+    c .stopped5 .ensures ∙ trace-left (termsOf (a .sheet)) (now (a .msg)) (a .len) (a .n) (sheeted (c .before .before .before .before .before .before .before .before .before .before .before)) (measured (c .before .before .before .before .before .before .before .before .before)) (header (c .before .before .before .before .before .before .before) true (not-false _ (c .before .before .before .before .before .before .if3 .left))) _ (c .before .before .before .before .before .before .before .before .number-at .ensures) _ (c .before .before .before .before .before .survey .ensures) _ (ap endedOf (c .before .before .before .ended2 .given .1)) (c .before .if4 .taken)
 
--- src/location.rt:136:13
 judge-requires : tie.Need-judge-requires
-judge-requires c κs = ?
+judge-requires c κs =
+    let a = c .before .before .before .before .before .before .before .before .before .before .before .before .before .before .before .args in
+    let z = sized _ _ (measured (c .before .before .before .before .before .before .before .before .before .before)) in
+    record {
+      there = z .there;
+      most = z .most;
+      least = z .least;
+      sound = header (c .before .before .before .before .before .before .before .before) true (not-false _ (c .before .before .before .before .before .before .before .if3 .left));
+      read = c .before .before .before .before .before .before .before .before .before .number-at .ensures;
+      behind = route-behind (termsOf (a .sheet)) (now (a .msg)) (a .len) (a .n) (sheeted (c .before .before .before .before .before .before .before .before .before .before .before .before)) (measured (c .before .before .before .before .before .before .before .before .before .before)) (header (c .before .before .before .before .before .before .before .before) true (not-false _ (c .before .before .before .before .before .before .before .if3 .left))) _ (c .before .before .before .before .before .before .before .before .before .number-at .ensures) _ (c .before .before .before .before .before .before .survey .ensures) _ (ap endedOf (c .before .before .before .before .ended2 .given .1)) (c .before .before .if4 .left);
+    }
 
--- src/location.rt:113:1
 returns-5 : tie.Need-returns-5
-returns-5 c = ?
+returns-5 c =
+    let a = c .before .before .before .before .before .before .before .before .before .before .before .before .before .args in
+    c .stopped4 .ensures ∙ trace-halt (termsOf (a .sheet)) (now (a .msg)) (a .len) (a .n) (sheeted (c .before .before .before .before .before .before .before .before .before .before)) (measured (c .before .before .before .before .before .before .before .before)) (header (c .before .before .before .before .before .before) true (not-false _ (c .before .before .before .before .before .if3 .left))) _ (c .before .before .before .before .before .before .before .number-at .ensures) _ (c .before .before .before .before .survey .ensures) _ _ (ap endedOf (c .before .before .ended .given .1))
 
--- src/location.rt:113:1
 returns-6 : tie.Need-returns-6
-returns-6 c = ?
+returns-6 c =
+    let a = c .before .before .before .before .before .before .before .before .before .before .before .before .before .before .before .before .args in
+    c .judge .ensures ∙ trace-whole (termsOf (a .sheet)) (now (a .msg)) (a .len) (a .n) (sheeted (c .before .before .before .before .before .before .before .before .before .before .before .before .before)) (measured (c .before .before .before .before .before .before .before .before .before .before .before)) (header (c .before .before .before .before .before .before .before .before .before) true (not-false _ (c .before .before .before .before .before .before .before .before .if3 .left))) _ (c .before .before .before .before .before .before .before .before .before .before .number-at .ensures) _ (c .before .before .before .before .before .before .before .survey .ensures) _ (ap endedOf (c .before .before .before .before .before .ended2 .given .1)) (c .before .before .before .if4 .left)
 
 pub trace-of-spec : {M : Type 1} → statement M
 trace-of-spec =
     tie.close
     (tie.spec
-    sheet-ok-requires
-    stopped-requires
+    (λ c κs. search needs)
+    (λ c κs. search needs)
     returns
-    length-ok-requires
-    stopped-requires-2
+    (λ c κs. search needs)
+    (λ c κs. search needs)
     returns-2
     number-at-requires
     header-ok-requires
-    stopped-requires-3
+    (λ c κs. search needs)
     returns-3
     survey-requires
-    enum-known-ended
-    stopped-requires-4
-    enum-known-ended-2
-    stopped-requires-5
+    (λ c. search needs)
+    (λ c κs. search needs)
+    (λ c. search needs)
+    (λ c κs. search needs)
     returns-4
     judge-requires
     returns-5
