@@ -31,3 +31,4 @@ pub mod Decimals
 pub mod Lines
 pub mod Outcomes
 pub mod Writing
+pub mod Tops

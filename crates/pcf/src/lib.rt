@@ -9,6 +9,8 @@ pub use message::Cursor;
 pub use message::Stepped;
 pub use message::Tallied;
 pub use message::check;
+pub use message::header_ok;
+pub use message::length_ok;
 pub use message::step;
 pub use message::tally;
 pub use structure::Found;

@@ -50,14 +50,14 @@ pub enum Stepped {
 }
 
 // A message is no longer than its buffer and 65,536 bytes, and has a header.
-fn length_ok(msg: &[u8], len: usize) -> bool
+pub fn length_ok(msg: &[u8], len: usize) -> bool
     ensures { λ r. ⌜ r ≡ lengthOk (now (msg .entry)) len ⌝ }
 {
     len <= msg.len() && (len <= MOST_BYTES && HEADER <= len)
 }
 
 // StrucLength 36, Version 1 to 3, ParameterCount below 2^31; `count` is the ParameterCount.
-fn header_ok(msg: &[u8], count: u32) -> bool
+pub fn header_ok(msg: &[u8], count: u32) -> bool
     requires { ⌜ (36 ≤ length (now msg)) × (count ≡ number (now msg) 32) ⌝ }
     ensures { λ r. ⌜ r ≡ headerOk (partOf (now (msg .entry)) 36) ⌝ }
 {

@@ -3,3 +3,7 @@ pub mod Tests
 pub mod Sheets
 pub mod Headers
 pub mod Composing
+pub mod Turns
+pub mod Surveys
+pub mod Marking
+pub mod Locating

@@ -1,0 +1,260 @@
+-- Read's refusals, by the tests that the code makes.
+-- Assumes nothing.
+use mathlib.Core.Path.{_≡_, refl, sym, ap, _∙_, subst}
+use mathlib.Core.Bool.{Bool, true, false, _&&_}
+use mathlib.Core.List.{List, [], _∷_, _++_, append-nil}
+use Prim.Native.Nat.{ℕ, zero, suc, _+_, _-_, _≤_, _<_}
+use native.Mathlib.Omega.{arith}
+use lib.ListN.{length, getD, take}
+use lib.Dec.{leb, eqb}
+use borrow.Author.Tests.{eqb-true, eq-eqb, ne-eqb, le-leb, lt-leb}
+use Rattle.meaning.specs.Bytes.{Part, number, num}
+use Rattle.meaning.specs.Names.{«MQGACF_TRACE_ROUTE», «MQGACF_ACTIVITY», badAttribute, badSheet, noTraceHeader, noTraceRoute, leftOver}
+use Rattle.meaning.specs.Answer.{Result, accepted, refused, andThen, unless}
+use Rattle.meaning.specs.Structure.{Row}
+use Rattle.meaning.specs.Walk.{Walked, walked, walk}
+use Rattle.meaning.specs.Message.{partOf, headerOk, lengthOk, closed, scan}
+use Rattle.meaning.specs.Trace.{Terms, Trace, sheetOk, traceFields, traceHeader, Top, groups, groupsIn, tops, traceRoutes, directIn, directMembers, eachOnce, placesOf, valuesAt, inRange, readMembers, readRows, readTrace}
+use Rattle.meaning.specs.Activity.{noGroup}
+use Rattle.meaning.specs.Compose.{headerFields, traceHeaderFields}
+use Rattle.meaning.proofs.Tests.{clash, and-true, and-false}
+use Rattle.meaning.proofs.Structures.{RowAt}
+use Rattle.meaning.proofs.Scans.{scan-walk}
+use Rattle.meaning.proofs.Walks.{Walks, walks, walks-as, walk-of, In, in-nil, tiles, tiles-row}
+use Rattle.meaning.proofs.Parts.{num-part}
+use Rattle.meaning.proofs.Tops.{tiles-from, TopAt, all-at, all-groups, tops-at}
+use Rattle.trace.specs.Headers.{fieldsOf, startsWith}
+use Rattle.trace.specs.Groups.{groupOf, counted, Surveyed, surveyed}
+use Rattle.trace.specs.Locations.{rowsIn, stop, found, attributesBy, attributesIn, judgedIn, Outcome, traced, Attributes, located}
+use Rattle.trace.specs.declared.groups.Group.{Group}
+use Rattle.trace.specs.declared.groups.Counted.{Counted}
+use Rattle.trace.specs.declared.header.Kind.the-variants.{Trace as trace}
+use Rattle.trace.proofs.Marking.{Every, Placed, every-direct}
+use Rattle.trace.proofs.Turns.{endOf, end-next, end-refused}
+
+-- WHERE THE MEMBERS of a group stand: behind its start, and in the message
+module _ (m : Part) (p n : ℕ) where
+  every-row : (w : Result Walked) → walk m p 2 n ≡ w → Every (λ q. (p ≤ q) × (q + 16 ≤ m .end)) (rowsIn w)
+  every-row (accepted w) e r i =
+      let t = tiles (walks m p 2 n (w .rows) (w .next) e) in
+      let g = tiles-row m p (w .rows) (w .next) t r i in
+      (tiles-from m p (w .rows) (w .next) t r i, omega (arith, g .at-fits, g .at-least))
+  every-row (refused k q) e r i = absurd (in-nil i)
+
+  pub every-member : Every (λ q. (p ≤ q) × (q + 16 ≤ m .end)) (directIn (rowsIn (walk m p 2 n)))
+  every-member = every-direct (λ q. (p ≤ q) × (q + 16 ≤ m .end)) (rowsIn (walk m p 2 n)) (every-row (walk m p 2 n) refl)
+
+  pub members-placed : 2 ≤ p → Placed (directIn (rowsIn (walk m p 2 n)))
+  members-placed h r i = omega (arith, every-member r i .0)
+
+-- 8, by its two tests
+module _ (sheet : List ℕ) (m : Part) (members : List Row) (activity : Group) where
+  pub attributes-unfound : eachOnce sheet members ≡ false → stop badAttribute 0 ≡ attributesBy sheet m members activity
+  unfolding attributesBy
+  attributes-unfound e = rw e refl
+
+  module _ (once : eachOnce sheet members ≡ true) (places values : List ℕ) (p : places ≡ placesOf sheet members) (v : values ≡ valuesAt m places) where
+    pub attributes-unranged : inRange values ≡ false → stop badAttribute 0 ≡ attributesBy sheet m members activity
+    unfolding attributesBy
+    attributes-unranged e = rw (← p, ← v, once, e) refl
+
+    pub attributes-found : inRange values ≡ true → found places values activity ≡ attributesBy sheet m members activity
+    unfolding attributesBy
+    attributes-found e = rw (← p, ← v, once, e) refl
+
+and-right : (x : Bool) → x && true ≡ x
+and-right true = refl
+and-right false = refl
+
+-- 6: with a sound header, the eight fields and the count are the meaning's test
+module _ (msg : List ℕ) (len : ℕ) (least : 36 ≤ len) (sound : headerOk (partOf msg len) ≡ true) where
+  abbrev m : Part
+  m = partOf msg len
+
+  field-at : (at : ℕ) → at + 4 ≤ 36 → num m at ≡ number msg at
+  field-at at h = num-part msg len at (omega arith)
+
+  size-36 : eqb (number msg 4) 36 ≡ true
+  unfolding headerOk
+  size-36 = ap (λ (x : ℕ). eqb x 36) (sym (field-at 4 (omega arith))) ∙ (and-true (eqb (num m 4) 36) _ sound) .0
+
+  pub fields-read : startsWith msg 0 (take 8 (fieldsOf trace)) ≡ traceFields m
+  unfolding startsWith headerFields traceHeaderFields traceFields
+  fields-read =
+      rw (
+        size-36,
+        field-at 0 (omega arith),
+        field-at 8 (omega arith),
+        field-at 12 (omega arith),
+        field-at 16 (omega arith),
+        field-at 20 (omega arith),
+        field-at 24 (omega arith),
+        field-at 28 (omega arith),
+        and-right (eqb (number msg 28) 0),
+      ) refl
+
+  module _ (count : ℕ) (read : count ≡ number msg 32) where
+    pub no-count : count < 1 → traceHeader m ≡ false
+    unfolding traceHeader
+    no-count h =
+        let e : leb 1 (num m 32) ≡ false = lt-leb 1 (num m 32) (omega (arith, field-at 32 (omega arith))) in
+        rw e (and-false (traceFields m))
+
+    pub some-count : 1 ≤ count → (b : Bool) → startsWith msg 0 (take 8 (fieldsOf trace)) ≡ b → traceHeader m ≡ b
+    unfolding traceHeader
+    some-count h b e =
+        let l : leb 1 (num m 32) ≡ true = le-leb 1 (num m 32) (omega (arith, field-at 32 (omega arith))) in
+        rw (l, sym fields-read ∙ e) (and-right b)
+
+-- 6, 7, 8 by their tests
+module _ (sheet : List ℕ) (m : Part) (routes : Counted) (activity : Group) where
+  pub judge-header : traceHeader m ≡ false → stop noTraceHeader 0 ≡ judgedIn sheet m routes activity
+  unfolding judgedIn
+  judge-header e = rw e refl
+
+  module _ (header : traceHeader m ≡ true) where
+    pub judge-routes : (routes .count ≡ 1 → ⊥) → stop noTraceRoute 0 ≡ judgedIn sheet m routes activity
+    unfolding judgedIn
+    judge-routes e = rw (header, ne-eqb (routes .count) 1 e) refl
+
+    pub judge-members : routes .count ≡ 1 → attributesIn sheet m (routes .group .inside) (routes .group .members) activity ≡ judgedIn sheet m routes activity
+    unfolding judgedIn
+    judge-members e = rw (header, eq-eqb (routes .count) 1 e) refl
+
+-- THE ONE TraceRoute group: its direct members are the meaning's
+one-group : (ts : List Top) → length ts ≡ 1 → directMembers ts ≡ directIn (getD ts 0 noGroup .inside)
+unfolding directMembers
+one-group [] e = absurd (omega arith)
+one-group (t ∷ []) e = append-nil (directIn (t .inside))
+one-group (t ∷ u ∷ ts) e = absurd (omega arith)
+
+module _ (m : Part) (p count : ℕ) (rows : List Row) (tree : Walks m p 1 count rows (m .end)) where
+  -- a group that was counted: it stands in the message, and its rows are those of the walk inside it
+  pub nth-at : (id n : ℕ) → n < length (groups id rows) → TopAt m p (m .end) (getD (groups id rows) n noGroup)
+  unfolding groups
+  nth-at id n h = all-at (all-groups id (tops-at tree)) noGroup n h
+
+  pub nth-inside : (id n : ℕ) → n < length (groups id rows)
+      → rowsIn (walk m (groupOf (getD (groups id rows) n noGroup) .inside) 2 (groupOf (getD (groups id rows) n noGroup) .members)) ≡ getD (groups id rows) n noGroup .inside
+  unfolding groupOf
+  nth-inside id n h = let t = nth-at id n h in ap rowsIn (walk-of (t .within) (t .ends))
+
+  pub nth-behind : (id n : ℕ) → n < length (groups id rows) → p ≤ groupOf (getD (groups id rows) n noGroup) .inside
+  unfolding groupOf
+  nth-behind id n h = omega (arith, nth-at id n h .behind)
+
+  route-members : length (traceRoutes rows) ≡ 1
+      → directIn (rowsIn (walk m (counted «MQGACF_TRACE_ROUTE» 0 rows .group .inside) 2 (counted «MQGACF_TRACE_ROUTE» 0 rows .group .members))) ≡ directMembers (traceRoutes rows)
+  unfolding counted
+  route-members e = ap directIn (nth-inside «MQGACF_TRACE_ROUTE» 0 (omega arith)) ∙ sym (one-group (traceRoutes rows) e)
+
+  traced-unless : (n : ℕ) (b : Bool) (k q : ℕ) (r : Result Trace) → traced n (unless b (refused k q) r) ≡ unless b (stop k q) (traced n r)
+  traced-unless n true k q r = refl
+  traced-unless n false k q r = refl
+
+  -- 8, as the meaning has it
+  members-read : (sheet : List ℕ) (n : ℕ) (members : List Row)
+      → traced n (readMembers sheet m rows members) ≡ attributesBy sheet m members (counted «MQGACF_ACTIVITY» n rows .group)
+  unfolding readMembers attributesBy
+  members-read sheet n members = traced-unless n (eachOnce sheet members && inRange (valuesAt m (placesOf sheet members))) badAttribute 0 _
+
+  -- 6, 7, 8, as the meaning has them
+  pub rows-read : (sheet : List ℕ) (n : ℕ)
+      → traced n (readRows sheet m rows) ≡ judgedIn sheet m (counted «MQGACF_TRACE_ROUTE» 0 rows) (counted «MQGACF_ACTIVITY» n rows .group)
+  unfolding readRows judgedIn counted
+  rows-read sheet n =
+      traced-unless n (traceHeader m) noTraceHeader 0 _
+      ∙ ap (unless (traceHeader m) (stop noTraceHeader 0))
+      (traced-unless n (eqb (length (traceRoutes rows)) 1) noTraceRoute 0 _ ∙ go (eqb (length (traceRoutes rows)) 1) refl)
+    where
+      go : (b : Bool) → eqb (length (traceRoutes rows)) 1 ≡ b
+          → unless b (stop noTraceRoute 0) (traced n (readMembers sheet m rows (directMembers (traceRoutes rows))))
+          ≡ unless b (stop noTraceRoute 0)
+          (attributesIn sheet m (counted «MQGACF_TRACE_ROUTE» 0 rows .group .inside) (counted «MQGACF_TRACE_ROUTE» 0 rows .group .members) (counted «MQGACF_ACTIVITY» n rows .group))
+      go true e = members-read sheet n (directMembers (traceRoutes rows)) ∙ rw (route-members (eqb-true (length (traceRoutes rows)) 1 e)) refl
+      go false e = refl
+
+-- WHAT A SURVEY TELLS of the walk that it is of
+record Told (n : ℕ) (v : Result Walked) (s : Surveyed) (q : ℕ) : Type 0 where
+  pub rows : List Row
+  pub over : v ≡ walked rows q
+  pub routes : s .routes ≡ counted «MQGACF_TRACE_ROUTE» 0 rows
+  pub activities : s .activities ≡ counted «MQGACF_ACTIVITY» n rows
+
+told : (n : ℕ) (v : Result Walked) (s : Surveyed) (q : ℕ) → s ≡ surveyed n v → s .ended ≡ accepted q → Told n v s q
+told n (accepted w) s q e f =
+    let g : _≡_ {A = Result ℕ} (accepted (w .next)) (accepted q) = sym (ap (λ (x : Surveyed). x .ended) e) ∙ f in
+    let h : w .next ≡ q = cc in
+    record {
+      rows = w .rows;
+      over = ap (walked (w .rows)) h;
+      routes = ap (λ (x : Surveyed). x .routes) e;
+      activities = ap (λ (x : Surveyed). x .activities) e;
+    }
+told n (refused k p) s q e f =
+    let g : _≡_ {A = Result ℕ} (refused k p) (accepted q) = sym (ap (λ (x : Surveyed). x .ended) e) ∙ f in
+    absurd (clash (cc))
+
+told-refused : (n : ℕ) (v : Result Walked) (s : Surveyed) (k q : ℕ) → s ≡ surveyed n v → s .ended ≡ refused k q → v ≡ refused k q
+told-refused n (accepted w) s k q e f =
+    let g : _≡_ {A = Result ℕ} (accepted (w .next)) (refused k q) = sym (ap (λ (x : Surveyed). x .ended) e) ∙ f in
+    absurd (clash (cc))
+told-refused n (refused k′ p) s k q e f =
+    let g : _≡_ {A = Result ℕ} (refused k′ p) (refused k q) = sym (ap (λ (x : Surveyed). x .ended) e) ∙ f in
+    cc
+
+-- READ, by the tests that come first
+module _ (tm : Terms) (buf : List ℕ) (len n : ℕ) where
+  pub trace-unsheeted : sheetOk (tm .sheet) ≡ false → stop badSheet 0 ≡ traced n (readTrace tm buf len)
+  unfolding readTrace
+  trace-unsheeted e = rw e refl
+
+  module _ (ok : sheetOk (tm .sheet) ≡ true) where
+    pub trace-unscanned : (k q : ℕ) → scan buf len ≡ refused k q → stop k q ≡ traced n (readTrace tm buf len)
+    unfolding readTrace
+    trace-unscanned k q e = rw (ok, e) refl
+
+    module _ (sized : lengthOk buf len ≡ true) (header : headerOk (partOf buf len) ≡ true) (count : ℕ) (read : count ≡ number buf 32)
+        (s : Surveyed) (e : s ≡ surveyed n (walk (partOf buf len) 36 1 count)) where
+      scanned : scan buf len ≡ andThen (walk (partOf buf len) 36 1 count) (closed len)
+      scanned = scan-walk buf len sized header count read
+
+      pub trace-halt : (k q : ℕ) → s .ended ≡ refused k q → stop k q ≡ traced n (readTrace tm buf len)
+      trace-halt k q f = trace-unscanned k q (scanned ∙ rw (told-refused n (walk (partOf buf len) 36 1 count) s k q e f) refl)
+
+      module _ (q : ℕ) (f : s .ended ≡ accepted q) where
+        t : Told n (walk (partOf buf len) 36 1 count) s q
+        t = told n (walk (partOf buf len) 36 1 count) s q e f
+
+        pub trace-left : (q ≡ len → ⊥) → stop leftOver q ≡ traced n (readTrace tm buf len)
+        unfolding closed
+        trace-left d = trace-unscanned leftOver q (scanned ∙ rw (t .over, ne-eqb q len d) refl)
+
+        module _ (z : q ≡ len) where
+          tree : Walks (partOf buf len) 36 1 count (t .rows) len
+          tree = walks-as refl refl z (walks (partOf buf len) 36 1 count (t .rows) q (t .over))
+
+          whole-rows : scan buf len ≡ accepted (t .rows)
+          unfolding closed
+          whole-rows = scanned ∙ ap (λ (x : Result Walked). andThen x (closed len)) (t .over) ∙ rw (eq-eqb q len z) refl
+
+          whole-read : readTrace tm buf len ≡ readRows (tm .sheet) (partOf buf len) (t .rows)
+          unfolding readTrace
+          whole-read = rw ok (ap (λ (x : Result (List Row)). andThen x (readRows (tm .sheet) (partOf buf len))) whole-rows)
+
+          pub trace-whole : judgedIn (tm .sheet) (partOf buf len) (s .routes) (s .activities .group) ≡ traced n (readTrace tm buf len)
+          trace-whole =
+              ap (λ (x : Counted). judgedIn (tm .sheet) (partOf buf len) x (s .activities .group)) (t .routes)
+              ∙ ap (λ (x : Counted). judgedIn (tm .sheet) (partOf buf len) (counted «MQGACF_TRACE_ROUTE» 0 (t .rows)) (x .group)) (t .activities)
+              ∙ sym (rows-read (partOf buf len) 36 count (t .rows) tree (tm .sheet) n) ∙ ap (traced n) (sym whole-read)
+
+          pub route-behind : s .routes .count ≡ 1 → 2 ≤ s .routes .group .inside
+          unfolding counted
+          route-behind =
+              subst (λ (x : Counted). x .count ≡ 1 → 2 ≤ x .group .inside) (sym (t .routes))
+              (λ i. omega (arith, nth-behind (partOf buf len) 36 count (t .rows) tree «MQGACF_TRACE_ROUTE» 0 (omega arith)))
+
+-- without the Activity group
+pub located-traced : (n : ℕ) (r : Result Trace) (o : Outcome) → o ≡ traced n r → record { answer = o .answer; places = o .places; values = o .values } ≡ located r
+located-traced n (accepted t) o e = ap (λ (x : Outcome). record { answer = x .answer; places = x .places; values = x .values }) e
+located-traced n (refused k p) o e = ap (λ (x : Outcome). record { answer = x .answer; places = x .places; values = x .values }) e

@@ -1,0 +1,103 @@
+-- A trace as the code hands it out, in the meaning's terms.
+use Prim.Native.Nat.{ℕ, _≤_}
+use mathlib.Core.Path.{_≡_}
+use mathlib.Core.Bool.{Bool, true, _&&_}
+use mathlib.Core.List.{List, []}
+use lib.ListN.{length, replicate}
+use lib.Dec.{eqb}
+use Rattle.meaning.specs.Bytes.{Part, number}
+use Rattle.meaning.specs.Names.{attributes, mostBytes, noTraceHeader, noTraceRoute, badAttribute, «MQGACF_ACTIVITY»}
+use Rattle.meaning.specs.Answer.{Result, accepted, refused, unless}
+use Rattle.meaning.specs.Structure.{Row}
+use Rattle.meaning.specs.Walk.{Walked, walk}
+use Rattle.meaning.specs.Message.{partOf, headerOk}
+use Rattle.meaning.specs.Trace.{traceHeader, directIn, eachOnce, placesOf, valuesAt, inRange, Trace}
+use Rattle.answers.specs.Refusals.{refusal}
+use Rattle.trace.specs.Groups.{noGroupYet, counted}
+use Rattle.trace.specs.declared.groups.Group.{Group}
+use Rattle.trace.specs.declared.groups.Counted.{Counted}
+use Rattle.trace.specs.declared.location.Answer.{Answer}
+use Rattle.trace.specs.declared.location.Answer.the-variants.{Found, Refused}
+use Rattle.trace.specs.declared.location.Located.{Located}
+use Rattle.trace.specs.declared.location.Traced.{Traced}
+
+-- that there is a sound trace; the rest of the answer says which
+pub data Done : Type 0 where
+  done : Done
+
+abbrev pub answerOf : Answer → Result Done
+answerOf Found = accepted done
+answerOf (Refused r) = refusal r
+
+-- THE PLACES AND THE VALUES of what Read gives: all 0 if it refuses
+pub record Attributes : Type 0 where
+  pub answer : Result Done
+  pub places : List ℕ
+  pub values : List ℕ
+
+abbrev pub none : List ℕ
+none = replicate attributes 0
+
+abbrev pub located : Result Trace → Attributes
+located (accepted t) = record { answer = accepted done; places = t .places; values = t .values }
+located (refused k p) = record { answer = refused k p; places = none; values = none }
+
+abbrev pub locatedOf : Located → Attributes
+locatedOf r = record { answer = answerOf (r .answer); places = r .places; values = r .values }
+
+-- the same, with an Activity group
+pub record Outcome : Type 0 where
+  pub answer : Result Done
+  pub places : List ℕ
+  pub values : List ℕ
+  pub activity : Group
+
+abbrev pub found : List ℕ → List ℕ → Group → Outcome
+found places values activity = record { answer = accepted done; places = places; values = values; activity = activity }
+
+abbrev pub stop : ℕ → ℕ → Outcome
+stop k p = record { answer = refused k p; places = none; values = none; activity = noGroupYet }
+
+abbrev pub traced : ℕ → Result Trace → Outcome
+traced n (accepted t) = found (t .places) (t .values) (counted «MQGACF_ACTIVITY» n (t .rows) .group)
+traced n (refused k p) = stop k p
+
+abbrev pub tracedOf : Traced → Outcome
+tracedOf t = record { answer = answerOf (t .answer); places = t .places; values = t .values; activity = t .activity }
+
+-- the rows of a walk, none if it is refused
+abbrev pub rowsIn : Result Walked → List Row
+rowsIn (accepted w) = w .rows
+rowsIn (refused k p) = []
+
+-- 8, by the direct members
+unfoldable pub attributesBy : List ℕ → Part → List Row → Group → Outcome
+attributesBy sheet m members activity =
+    unless (eachOnce sheet members && inRange (valuesAt m (placesOf sheet members))) (stop badAttribute 0)
+    (found (placesOf sheet members) (valuesAt m (placesOf sheet members)) activity)
+
+-- 8, by the members of the group whose first one is at `inside`
+abbrev pub attributesIn : List ℕ → Part → ℕ → ℕ → Group → Outcome
+attributesIn sheet m inside members activity = attributesBy sheet m (directIn (rowsIn (walk m inside 2 members))) activity
+
+-- 6, 7, 8, by the TraceRoute groups that were counted
+unfoldable pub judgedIn : List ℕ → Part → Counted → Group → Outcome
+judgedIn sheet m routes activity =
+    unless (traceHeader m) (stop noTraceHeader 0)
+    (unless (eqb (routes .count) 1) (stop noTraceRoute 0)
+    (attributesIn sheet m (routes .group .inside) (routes .group .members) activity))
+
+-- the message is there, and a group's members stand behind the header
+pub record Within (msg : List ℕ) (len inside : ℕ) : Type 0 where
+  pub there : len ≤ length msg
+  pub most : len ≤ mostBytes
+  pub behind : 2 ≤ inside
+
+-- the header is sound, its count is known, and a group that was counted stands behind it
+pub record Headed (msg : List ℕ) (len count : ℕ) (routes : Counted) : Type 0 where
+  pub there : len ≤ length msg
+  pub most : len ≤ mostBytes
+  pub least : 36 ≤ len
+  pub sound : headerOk (partOf msg len) ≡ true
+  pub read : count ≡ number msg 32
+  pub behind : routes .count ≡ 1 → 2 ≤ routes .group .inside

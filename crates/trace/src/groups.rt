@@ -1,0 +1,134 @@
+// The top-level groups of a message: the TraceRoute group, and the n-th Activity group.
+use crate::passing::pass;
+use answers::Refusal;
+use pcf::Ended;
+use pcf::Row;
+use pcf::Stepped;
+ghost use mathlib.Core.Path.{_≡_};
+ghost use Prim.Native.Nat.{_+_, _≤_, _<_};
+ghost use lib.ListN.{length};
+ghost use Rattle.meaning.specs.Walk.{walk};
+ghost use Rattle.meaning.specs.Message.{partOf};
+ghost use Rattle.answers.specs.Refusals.{refusal};
+ghost use Rattle.pcf.specs.Rows.{rowOf};
+ghost use Rattle.trace.specs.Groups.{noGroupYet, noneYet, countRow, Countable, surveyOf, surveyed};
+
+// The type of a group, and the identifiers of the groups that a trace is made of.
+const MQCFT_GROUP: u32 = 20;
+const MQGACF_TRACE_ROUTE: u32 = 8003;
+const MQGACF_ACTIVITY: u32 = 8005;
+
+// A group: its place, the place of what is inside it, its length with all of that, and how many direct members it has.
+pub struct Group {
+    pub place: usize,
+    pub inside: usize,
+    pub length: usize,
+    pub members: u32,
+}
+
+// How many top-level groups with an identifier there are, and one of them; all 0 where there is none.
+pub struct Counted {
+    pub count: usize,
+    pub group: Group,
+}
+
+// Where the top-level structures end, or the first fault; the TraceRoute groups, with the first of them; and the Activity
+// groups, with the one that was asked for.
+pub struct Tops {
+    pub ended: Ended,
+    pub routes: Counted,
+    pub activities: Counted,
+}
+
+pub fn no_group() -> Group
+    ensures { λ g. ⌜ g ≡ noGroupYet ⌝ }
+{
+    Group {
+        place: 0,
+        inside: 0,
+        length: 0,
+        members: 0,
+    }
+}
+
+fn none_yet() -> Counted
+    ensures { λ c. ⌜ c ≡ noneYet ⌝ }
+{
+    Counted {
+        count: 0,
+        group: no_group(),
+    }
+}
+
+// One more structure, which ends before `behind`: it counts if it is a group with the identifier, and is kept if it is the
+// n-th of those.
+fn count_row(c: Counted, id: u32, n: usize, row: Row, behind: usize) -> Counted
+    requires { ⌜ Countable c (rowOf row) behind ⌝ }
+    ensures { λ r. ⌜ r ≡ countRow id n c (rowOf row) behind ⌝ }
+{
+    if row.kind != MQCFT_GROUP {
+        return c;
+    }
+    if row.parameter != id {
+        return c;
+    }
+    let group = c.group;
+    if c.count != n {
+        return Counted {
+            count: c.count + 1,
+            group,
+        };
+    }
+    Counted {
+        count: c.count + 1,
+        group: Group {
+            place: row.place,
+            inside: row.place + row.size as usize,
+            length: behind - row.place,
+            members: row.members,
+        },
+    }
+}
+
+// A message in which a structure is not sound.
+fn halted(r: Refusal) -> Tops
+    ensures { λ s. ⌜ surveyOf s ≡ record { ended = refusal r; routes = noneYet; activities = noneYet } ⌝ }
+{
+    Tops {
+        ended: Ended::Refused(r),
+        routes: none_yet(),
+        activities: none_yet(),
+    }
+}
+
+// Goes over the top-level structures of a message, `count` of them, and over all that is inside them.
+pub fn survey(msg: &[u8], len: usize, count: u32, n: usize) -> Tops
+    requires { ⌜ (len ≤ length (now msg)) × (len ≤ 65536) ⌝ }
+    ensures { λ s. ⌜ surveyOf s ≡ surveyed n (walk (partOf (now (msg .entry)) len) 36 1 count) ⌝ }
+{
+    let mut at: usize = 36;
+    let mut left = count;
+    let mut routes = none_yet();
+    let mut activities = none_yet();
+    while 0 < left {
+        let stepped = pass(msg, len, at, 1);
+        match stepped {
+            Stepped::Refused(r) => {
+                return halted(r);
+            }
+            Stepped::Structure(row, behind) => {
+                let more_routes = count_row(routes, MQGACF_TRACE_ROUTE, 0, row, behind);
+                let more_activities = count_row(activities, MQGACF_ACTIVITY, n, row, behind);
+                routes = more_routes;
+                activities = more_activities;
+                at = behind;
+            }
+        }
+        left = left - 1;
+    }
+    Tops {
+        ended: Ended::Behind(at),
+        routes,
+        activities,
+    }
+}

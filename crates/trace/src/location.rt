@@ -1,0 +1,154 @@
+// Where the attributes of a trace are, what they are, and where its Activity groups are: the refusals of Read.
+use crate::groups::Counted;
+use crate::groups::Group;
+use crate::groups::no_group;
+use crate::groups::survey;
+use crate::header::Kind;
+use crate::header::has_header;
+use crate::members::all_found;
+use crate::members::marks_of;
+use crate::members::values_at;
+use crate::ranges::in_range;
+use crate::sheet::sheet_ok;
+use answers::Refusal;
+use pcf::Ended;
+use pcf::header_ok;
+use pcf::length_ok;
+use wire::number_at;
+ghost use mathlib.Core.Path.{_≡_};
+ghost use Prim.Native.Nat.{_≤_};
+ghost use lib.ListN.{length};
+ghost use Rattle.meaning.specs.Message.{partOf};
+ghost use Rattle.meaning.specs.Trace.{readTrace};
+ghost use Rattle.answers.specs.Refusals.{numberOf, placeOf};
+ghost use Rattle.trace.specs.Composes.{termsOf};
+ghost use Rattle.trace.specs.Locations.{Within, Headed, stop, tracedOf, attributesIn, judgedIn, traced, locatedOf, located};
+
+// A sound trace, or 17, then 1 to 8.
+pub enum Answer {
+    Found,
+    Refused(Refusal),
+}
+
+// The places and the values of the eight attributes of a sound trace; all 0 if refused.
+pub struct Located {
+    pub answer: Answer,
+    pub places: [usize; 8],
+    pub values: [u32; 8],
+}
+
+// The same, with an Activity group.
+pub struct Traced {
+    pub answer: Answer,
+    pub places: [usize; 8],
+    pub values: [u32; 8],
+    pub activity: Group,
+}
+
+fn stopped(r: Refusal) -> Traced
+    ensures { λ t. ⌜ tracedOf t ≡ stop (numberOf r) (placeOf r) ⌝ }
+{
+    Traced {
+        answer: Answer::Refused(r),
+        places: [0usize; 8],
+        values: [0u32; 8],
+        activity: no_group(),
+    }
+}
+
+// 8: each of the sheet's identifiers has exactly one direct member of the TraceRoute group, an integer in its range.
+fn attributes(
+    msg: &[u8],
+    len: usize,
+    sheet: [u32; 8],
+    inside: usize,
+    members: u32,
+    activity: Group,
+) -> Traced
+    requires { ⌜ Within (now msg) len inside ⌝ }
+    ensures { λ t. ⌜ tracedOf t ≡ attributesIn sheet (partOf (now (msg .entry)) len) inside members activity ⌝ }
+{
+    let places = marks_of(msg, len, inside, members, sheet);
+    if !all_found(places) {
+        return stopped(Refusal::BadAttribute);
+    }
+    let values = values_at(msg, len, places);
+    if !in_range(values) {
+        return stopped(Refusal::BadAttribute);
+    }
+    Traced {
+        answer: Answer::Found,
+        places,
+        values,
+        activity,
+    }
+}
+
+// 6, then 7, then 8: the header is a trace's, and there is exactly one TraceRoute group.
+fn judge(
+    msg: &[u8],
+    len: usize,
+    sheet: [u32; 8],
+    count: u32,
+    routes: Counted,
+    activity: Group,
+) -> Traced
+    requires { ⌜ Headed (now msg) len count routes ⌝ }
+    ensures { λ t. ⌜ tracedOf t ≡ judgedIn sheet (partOf (now (msg .entry)) len) routes activity ⌝ }
+{
+    if count < 1 {
+        return stopped(Refusal::NoTraceHeader);
+    }
+    if !has_header(msg, Kind::Trace) {
+        return stopped(Refusal::NoTraceHeader);
+    }
+    if routes.count != 1 {
+        return stopped(Refusal::NoTraceRoute);
+    }
+    let route = routes.group;
+    attributes(msg, len, sheet, route.inside, route.members, activity)
+}
+
+// A trace with its attributes and its n-th Activity group.
+pub fn trace_of(msg: &[u8], len: usize, sheet: [u32; 8], n: usize) -> Traced
+    ensures { λ t. ⌜ tracedOf t ≡ traced n (readTrace (termsOf sheet) (now (msg .entry)) len) ⌝ }
+{
+    if !sheet_ok(sheet) {
+        return stopped(Refusal::BadSheet);
+    }
+    if !length_ok(msg, len) {
+        return stopped(Refusal::BadLength);
+    }
+    let count = number_at(msg, 32);
+    if !header_ok(msg, count) {
+        return stopped(Refusal::BadHeader);
+    }
+    let tops = survey(msg, len, count, n);
+    let ended = tops.ended;
+    match ended {
+        Ended::Refused(r) => stopped(r),
+        Ended::Behind(at) => {
+            if at != len {
+                return stopped(Refusal::LeftOver(at));
+            }
+            let routes = tops.routes;
+            let activities = tops.activities;
+            judge(msg, len, sheet, count, routes, activities.group)
+        }
+    }
+}
+
+// LOCATE: the places and the values of the eight attributes.
+pub fn locate(msg: &[u8], len: usize, sheet: [u32; 8]) -> Located
+    ensures { λ r. ⌜ locatedOf r ≡ located (readTrace (termsOf sheet) (now (msg .entry)) len) ⌝ }
+{
+    let t = trace_of(msg, len, sheet, 0);
+    let answer = t.answer;
+    let places = t.places;
+    let values = t.values;
+    Located {
+        answer,
+        places,
+        values,
+    }
+}

@@ -1,0 +1,103 @@
+// The eight attributes among the direct members of the TraceRoute group.
+use crate::passing::pass;
+use pcf::Row;
+use pcf::Stepped;
+use wire::number_at;
+ghost use mathlib.Core.Path.{_≡_};
+ghost use Prim.Native.Nat.{_≤_};
+ghost use lib.ListN.{length};
+ghost use Rattle.meaning.specs.Walk.{walk};
+ghost use Rattle.meaning.specs.Message.{partOf};
+ghost use Rattle.meaning.specs.Trace.{valuesAt};
+ghost use Rattle.pcf.specs.Rows.{rowOf};
+ghost use Rattle.trace.specs.Marks.{noted, Noted, Marked, allFound, InReach};
+
+const MQCFT_INTEGER: u32 = 3;
+
+// An attribute has a mark: the place of its integer, or one of these, which are no places of structures. Once a member with
+// its identifier is no integer, or comes second, it stays at fault.
+const ABSENT: usize = 0;
+const FAULT: usize = 1;
+
+// The mark of the attribute with the identifier, after one more direct member of the group.
+fn note(id: u32, mark: usize, row: Row) -> usize
+    ensures { λ r. ⌜ r ≡ noted id mark (rowOf row) ⌝ }
+{
+    if row.parameter != id {
+        return mark;
+    }
+    if row.kind != MQCFT_INTEGER {
+        return FAULT;
+    }
+    if mark != ABSENT {
+        return FAULT;
+    }
+    row.place
+}
+
+// The marks of the eight attributes, after one more direct member of the group.
+fn note_all(sheet: [u32; 8], marks: [usize; 8], row: Row) -> [usize; 8]
+    ensures { λ r. ⌜ Noted sheet marks (rowOf row) r ⌝ }
+{
+    let mut after = marks;
+    let mut k = 0;
+    while k < 8 {
+        after[k] = note(sheet[k], marks[k], row);
+        k += 1;
+    }
+    after
+}
+
+// The marks of the eight attributes after all of a group's direct members, `count` of them, the first at `place`. What is
+// nested deeper is passed over.
+pub fn marks_of(msg: &[u8], len: usize, place: usize, count: u32, sheet: [u32; 8]) -> [usize; 8]
+    requires { ⌜ (len ≤ length (now msg)) × (len ≤ 65536) ⌝ }
+    ensures { λ r. ⌜ Marked sheet (walk (partOf (now (msg .entry)) len) place 2 count) r ⌝ }
+{
+    let mut at = place;
+    let mut left = count;
+    let mut marks = [0usize; 8];
+    while 0 < left {
+        let stepped = pass(msg, len, at, 2);
+        match stepped {
+            Stepped::Refused(_) => {
+                return [0usize; 8];
+            }
+            Stepped::Structure(row, behind) => {
+                let after = note_all(sheet, marks, row);
+                marks = after;
+                at = behind;
+            }
+        }
+        left = left - 1;
+    }
+    marks
+}
+
+// Every attribute has its place.
+pub fn all_found(marks: [usize; 8]) -> bool
+    ensures { λ r. ⌜ r ≡ allFound marks ⌝ }
+{
+    let mut k = 0;
+    while k < 8 {
+        if marks[k] <= FAULT {
+            return false;
+        }
+        k += 1;
+    }
+    true
+}
+
+// The Values of the integers at eight places.
+pub fn values_at(msg: &[u8], len: usize, places: [usize; 8]) -> [u32; 8]
+    requires { ⌜ (len ≤ length (now msg)) × InReach len places ⌝ }
+    ensures { λ r. ⌜ r ≡ valuesAt (partOf (now (msg .entry)) len) places ⌝ }
+{
+    let mut values = [0u32; 8];
+    let mut k = 0;
+    while k < 8 {
+        values[k] = number_at(msg, places[k] + 12);
+        k += 1;
+    }
+    values
+}
