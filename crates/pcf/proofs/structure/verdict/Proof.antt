@@ -7,6 +7,6 @@ pub verdict-spec : {M : Type 1} → statement M
 verdict-spec =
     tie.close
     (tie.spec
-    (λ c. simp (c .before .if1 .taken, c .if2 .taken))
-    (λ c. simp (c .before .if1 .taken, c .if2 .left))
-    (λ c. simp (c .if1 .left)))
+    (λ c. simp (c .if1 .taken))
+    (λ c. simp (c .before .if1 .left, c .if2 .taken))
+    (λ c. simp (c .before .if1 .left, c .if2 .left)))
