@@ -5,9 +5,66 @@ mod plan;
 mod verdict;
 mod written;
 
-pub use group::group_ok;
+use answers::Refusal;
+use entered::count;
+use entered::enter;
+use group::group_ok;
+use plan::plan_activity;
+use trace::locate;
+ghost use mathlib.Core.Path.{_≡_};
+ghost use Rattle.meaning.specs.Event.{event};
+ghost use Rattle.trace.specs.Composes.{termsOf};
+ghost use Rattle.event.specs.Events.{activityOf, outcome, state, Discontinues};
+
 pub use plan::Counter;
 pub use plan::Level;
 pub use plan::Settings;
 pub use verdict::Answer;
 pub use verdict::Done;
+
+// A DISCONTINUITY: DiscontinuityCount rises by one.
+pub fn discontinuity(buf: &mut [u8], len: usize, sheet: [u32; 8]) -> Answer
+    ensures { λ r. ⌜ Discontinues sheet (now (buf .entry)) len r (now (buf .exit)) ⌝ }
+{
+    let found = locate(buf, len, sheet);
+    let sought = found.answer;
+    match sought {
+        trace::Answer::Refused(r) => Answer::Refused(r),
+        trace::Answer::Found => {
+            let places = found.places;
+            let values = found.values;
+            count(buf, len, places, values)
+        }
+    }
+}
+
+// AN ACTIVITY with its level, the lent group, whether reports are asked for, and the queue manager's settings. All refusals
+// come before the first byte is written.
+pub fn activity(
+    buf: &mut [u8],
+    len: usize,
+    sheet: [u32; 8],
+    level: Level,
+    group: &[u8],
+    asked: bool,
+    settings: Settings,
+    report: &mut [u8],
+) -> Answer
+    ensures { λ r. ⌜ outcome r len (now (buf .exit)) (now (report .exit)) ≡ event (termsOf sheet) (state (now (buf .entry)) len (now (report .entry))) (activityOf level (now (group .entry)) asked settings) ⌝ }
+{
+    let found = locate(buf, len, sheet);
+    let sought = found.answer;
+    match sought {
+        trace::Answer::Refused(r) => Answer::Refused(r),
+        trace::Answer::Found => {
+            if group_ok(group) {
+                let places = found.places;
+                let values = found.values;
+                let plan = plan_activity(values, level, asked, settings);
+                enter(buf, len, places, values, plan, group, report)
+            } else {
+                Answer::Refused(Refusal::BadGroup)
+            }
+        }
+    }
+}

@@ -3,6 +3,6 @@ mod Lengths
 mod Soundness
 pub mod Counting
 pub mod Answers
-mod Turns
+pub mod Turns
 mod Sums
-mod Closes
+pub mod Closes
