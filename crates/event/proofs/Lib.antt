@@ -3,3 +3,4 @@ mod Plans
 mod Verdicts
 mod Writes
 mod Entries
+mod Found

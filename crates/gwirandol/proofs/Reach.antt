@@ -19,7 +19,7 @@ use Rattle.gwirandol.specs.Codes.{Fits}
 
 check-of : (buf : List ℕ) (len : ℕ) (r : Result (List Row)) → scan buf len ≡ r → Fits (andThen r (λ rows. accepted (length rows)))
 check-of buf len (accepted rows) e = let a = scan-accepted buf len rows e in omega (arith, rows-room (a .walks), a .size .most)
-check-of buf len (refused n p) e = omega (arith, scan-refused buf len n p e)
+check-of buf len (refused n p) e = omega (arith, scan-refused buf len n p e .place)
 
 pub check-fits : (buf : List ℕ) (len : ℕ) → Fits (check buf len)
 unfolding check
@@ -29,7 +29,7 @@ list-of : (buf : List ℕ) (len : ℕ) (r : Result (List Row)) → scan buf len 
     → Fits (andThen r (λ rows. accepted (length (listingText (partOf buf len) len rows))))
 list-of buf len (accepted rows) e =
     let a = scan-accepted buf len rows e in omega (arith, listing-most (partOf buf len) len _ rows len (a .walks) (a .size .most))
-list-of buf len (refused n p) e = omega (arith, scan-refused buf len n p e)
+list-of buf len (refused n p) e = omega (arith, scan-refused buf len n p e .place)
 
 pub list-fits : (buf : List ℕ) (len : ℕ) → Fits (andThen (scan buf len) (λ rows. accepted (length (listingText (partOf buf len) len rows))))
 list-fits buf len = list-of buf len (scan buf len) refl

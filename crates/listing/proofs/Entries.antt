@@ -111,7 +111,7 @@ module _ (input before middle : List ℕ) (r : Refusal) (l : Lists input (length
       go (refused k p) s e f = (cc, f)
 
   pub refused-place : placeOf r < 4294967296
-  refused-place = omega (arith, scan-refused input (length input) (numberOf r) (placeOf r) (its-refusal .0))
+  refused-place = omega (arith, scan-refused input (length input) (numberOf r) (placeOf r) (its-refusal .0) .place)
 
   pub print-refused : (after : List ℕ) (n : ℕ) → Wrote middle 0 (refusalLine (numberOf r) (placeOf r)) after n → Prints input before after n
   unfolding listing

@@ -1,6 +1,6 @@
 -- How a scan ends: what an accepted message is known to be, and that a refusal's place lies in the message.
 -- Assumes nothing.
-use mathlib.Core.Path.{_≡_, refl, ap, _∙_}
+use mathlib.Core.Path.{sym, _≡_, refl, ap, _∙_}
 use mathlib.Core.Bool.{Bool, true, false, _&&_}
 use mathlib.Core.Logic.{_⊎_, inl, inr}
 use mathlib.Core.List.{List, _++_}
@@ -14,6 +14,7 @@ use Rattle.meaning.specs.Answer.{Result, accepted, refused, andThen, unl
 use Rattle.meaning.specs.Structure.{Row, lengthRule, rowOf, judged, judge, structureAt}
 use Rattle.meaning.specs.Walk.{Walked, walked, followedBy, ahead, enter, walkFuel, walk}
 use Rattle.meaning.specs.Message.{headerOk, lengthOk, partOf, parameterCount, firstPlace, closed, rowsOf, scan, check}
+use Rattle.meaning.specs.Trace.{Terms, sheetOk, traceHeader, traceRoutes, directMembers, eachOnce, placesOf, valuesAt, inRange, readMembers, readRows, readTrace}
 use Rattle.meaning.proofs.Tests.{clash, unless-accepted, then-accepted}
 use Rattle.meaning.proofs.Structures.{row-at}
 use Rattle.meaning.proofs.Walks.{Walks, walks, walks-fuel}
@@ -66,17 +67,22 @@ check-refused buf len n p e = go (then-refused (scan buf len) _ n p e)
     go (inl h) = h
     go (inr h) = absurd (clash (cc (h .2)))
 
-judged-refused : (x y : Bool) (p : ℕ) (r : Row) (n q : ℕ) → judged x y p r ≡ refused n q → q ≡ p
-judged-refused true true p r n q e = cc
-judged-refused true false p r n q e = absurd (clash (cc))
-judged-refused false y p r n q e = cc
+-- a refusal's number is one of a message's, 1 to 5, and its place is not behind the end
+pub record Faulty (end n q : ℕ) : Type 0 where
+  pub number : n ≤ 5
+  pub place : q ≤ end
 
-judge-refused : (end p d t n k a b c m q : ℕ) → judge end p d t n k a b c ≡ refused m q → q ≡ p
+judged-refused : (x y : Bool) (p : ℕ) (r : Row) (n q : ℕ) → judged x y p r ≡ refused n q → Faulty p n q
+judged-refused true true p r n q e = let k : n ≡ 4 = cc in let z : q ≡ p = cc in record { number = omega arith; place = omega arith }
+judged-refused true false p r n q e = absurd (clash (cc))
+judged-refused false y p r n q e = let k : n ≡ 3 = cc in let z : q ≡ p = cc in record { number = omega arith; place = omega arith }
+
+judge-refused : (end p d t n k a b c m q : ℕ) → judge end p d t n k a b c ≡ refused m q → Faulty p m q
 unfolding judge
 judge-refused end p d t n k a b c m q e =
     judged-refused (leb (p + n) end && (eqb (n % 4) 0 && lengthRule t n a b c)) (eqb t 20 && ltb 8 d) p (rowOf p d t n k a) m q e
 
-structure-refused : (s : Part) (p d n q : ℕ) → structureAt s p d ≡ refused n q → q ≡ p
+structure-refused : (s : Part) (p d n q : ℕ) → structureAt s p d ≡ refused n q → Faulty p n q
 unfolding structureAt
 structure-refused s p d n q e = judge-refused (s .end) p d _ _ _ _ _ _ n q e
 
@@ -97,10 +103,14 @@ ahead-refused r (refused k q) n p e = cc
 ahead-refused r (accepted x) n p e = absurd (clash (cc))
 
 -- a refusal's place is that of a structure, and so at most the part's end
-enter-refused : (f : ℕ) (s : Part) (p d n k q : ℕ) → p ≤ s .end → ((p d n k q : ℕ) → p ≤ s .end → walkFuel f s p d n ≡ refused k q → q ≤ s .end)
+enter-refused : (f : ℕ) (s : Part) (p d n k q : ℕ) → p ≤ s .end → ((p d n k q : ℕ) → p ≤ s .end → walkFuel f s p d n ≡ refused k q → Faulty (s .end) k q)
     → (t : Result Row) → structureAt s p d ≡ t
-    → enter t (λ r. walkFuel f s (p + r .size) (suc d) (r .members)) (λ x. walkFuel f s x d n) ≡ refused k q → q ≤ s .end
-enter-refused f s p d n k q h ih (refused k′ q′) t e = let z : q′ ≡ q = cc in omega (arith, structure-refused s p d k′ q′ t)
+    → enter t (λ r. walkFuel f s (p + r .size) (suc d) (r .members)) (λ x. walkFuel f s x d n) ≡ refused k q → Faulty (s .end) k q
+enter-refused f s p d n k q h ih (refused k′ q′) t e =
+    let y : k′ ≡ k = cc in
+    let z : q′ ≡ q = cc in
+    let g = structure-refused s p d k′ q′ t in
+    record { number = omega (arith, g .number); place = omega (arith, g .place) }
 enter-refused f s p d n k q h ih (accepted r) t e =
     part (followed-refused (walkFuel f s (p + r .size) (suc d) (r .members)) (λ x. walkFuel f s x d n) k q (ahead-refused r _ k q e))
   where
@@ -108,44 +118,78 @@ enter-refused f s p d n k q h ih (accepted r) t e =
     inner = (row-at s p d r t) .at-fits
 
     part : (walkFuel f s (p + r .size) (suc d) (r .members) ≡ refused k q)
-        ⊎ ((x : Walked) × (walkFuel f s (p + r .size) (suc d) (r .members) ≡ walked (x .rows) (x .next)) × (walkFuel f s (x .next) d n ≡ refused k q)) → q ≤ s .end
+        ⊎ ((x : Walked) × (walkFuel f s (p + r .size) (suc d) (r .members) ≡ walked (x .rows) (x .next)) × (walkFuel f s (x .next) d n ≡ refused k q)) → Faulty (s .end) k q
     part (inl g) = ih (p + r .size) (suc d) (r .members) k q inner g
     part (inr g) =
         ih (g .0 .next) d n k q (walks-end (walks-fuel f s (p + r .size) (suc d) (r .members) (g .0 .rows) (g .0 .next) (g .1)) inner) (g .2)
 
-walk-refused : (f : ℕ) (s : Part) (p d n k q : ℕ) → p ≤ s .end → walkFuel f s p d n ≡ refused k q → q ≤ s .end
+walk-refused : (f : ℕ) (s : Part) (p d n k q : ℕ) → p ≤ s .end → walkFuel f s p d n ≡ refused k q → Faulty (s .end) k q
 unfolding walkFuel
 walk-refused zero s p d zero k q h e = absurd (clash (cc))
-walk-refused zero s p d (suc n) k q h e = let z : q ≡ p = cc in omega arith
+walk-refused zero s p d (suc n) k q h e = let y : k ≡ 3 = cc in let z : q ≡ p = cc in record { number = omega arith; place = omega arith }
 walk-refused (suc f) s p d zero k q h e = absurd (clash (cc))
 walk-refused (suc f) s p d (suc n) k q h e =
     enter-refused f s p d n k q h (λ p d n k q h e. walk-refused f s p d n k q h e) (structureAt s p d) refl e
 
-rows-refused : (m : Part) (n q : ℕ) → firstPlace m ≤ m .end → rowsOf m ≡ refused n q → q ≤ m .end
+rows-refused : (m : Part) (n q : ℕ) → firstPlace m ≤ m .end → rowsOf m ≡ refused n q → Faulty (m .end) n q
 unfolding rowsOf walk closed
 rows-refused m n q h e = header (headerOk m) e
   where
-    closing : (w : Walked) (b : Bool) → w .next ≤ m .end → unless b (refused 5 (w .next)) (accepted (w .rows)) ≡ refused n q → q ≤ m .end
+    closing : (w : Walked) (b : Bool) → w .next ≤ m .end → unless b (refused 5 (w .next)) (accepted (w .rows)) ≡ refused n q → Faulty (m .end) n q
     closing w true l e = absurd (clash (cc))
-    closing w false l e = let z : q ≡ w .next = cc in omega arith
+    closing w false l e = let y : n ≡ 5 = cc in let z : q ≡ w .next = cc in record { number = omega arith; place = omega arith }
 
     part : (walkFuel (m .end) m (firstPlace m) 1 (parameterCount m) ≡ refused n q)
-        ⊎ ((w : Walked) × (walkFuel (m .end) m (firstPlace m) 1 (parameterCount m) ≡ accepted w) × (closed (m .end) w ≡ refused n q)) → q ≤ m .end
+        ⊎ ((w : Walked) × (walkFuel (m .end) m (firstPlace m) 1 (parameterCount m) ≡ accepted w) × (closed (m .end) w ≡ refused n q)) → Faulty (m .end) n q
     part (inl g) = walk-refused (m .end) m (firstPlace m) 1 (parameterCount m) n q h g
     part (inr g) =
         closing (g .0) (eqb (g .0 .next) (m .end))
         (walks-end (walks-fuel (m .end) m (firstPlace m) 1 (parameterCount m) (g .0 .rows) (g .0 .next) (g .1)) h) (g .2)
 
-    header : (b : Bool) → unless b (refused 2 0) (andThen (walkFuel (m .end) m (firstPlace m) 1 (parameterCount m)) (closed (m .end))) ≡ refused n q → q ≤ m .end
-    header false e = let z : q ≡ 0 = cc in omega arith
+    header : (b : Bool) → unless b (refused 2 0) (andThen (walkFuel (m .end) m (firstPlace m) 1 (parameterCount m)) (closed (m .end))) ≡ refused n q → Faulty (m .end) n q
+    header false e = let y : n ≡ 2 = cc in let z : q ≡ 0 = cc in record { number = omega arith; place = omega arith }
     header true e = part (then-refused (walkFuel (m .end) m (firstPlace m) 1 (parameterCount m)) (closed (m .end)) n q e)
 
-pub scan-refused : (buf : List ℕ) (len n q : ℕ) → scan buf len ≡ refused n q → q ≤ 65536
+pub scan-refused : (buf : List ℕ) (len n q : ℕ) → scan buf len ≡ refused n q → Faulty 65536 n q
 unfolding scan
 scan-refused buf len n q e = go (lengthOk buf len) refl e
   where
-    go : (b : Bool) → lengthOk buf len ≡ b → unless b (refused 1 0) (rowsOf (partOf buf len)) ≡ refused n q → q ≤ 65536
-    go false f e = let z : q ≡ 0 = cc in omega arith
+    go : (b : Bool) → lengthOk buf len ≡ b → unless b (refused 1 0) (rowsOf (partOf buf len)) ≡ refused n q → Faulty 65536 n q
+    go false f e = let y : n ≡ 1 = cc in let z : q ≡ 0 = cc in record { number = omega arith; place = omega arith }
     go true f e =
         let l = sized buf len f in
-        omega (arith, l .most, rows-refused (partOf buf len) n q (l .least) e)
+        let g = rows-refused (partOf buf len) n q (l .least) e in
+        record { number = g .number; place = omega (arith, l .most, g .place) }
+
+-- Read refuses with 1 to 8 or 17, never with the limit's number
+unless-refused : {A : Type 0} (b : Bool) (k : ℕ) (r : Result A) (n q : ℕ) → unless b (refused k 0) r ≡ refused n q
+    → ((n ≡ k) × (q ≡ 0)) ⊎ (r ≡ refused n q)
+unless-refused true k r n q e = inr e
+unless-refused false k r n q e = inl (cc, cc)
+
+pub record Unread (n q : ℕ) : Type 0 where
+  pub number : n ≡ 10 → ⊥
+  pub place : q ≤ 65536
+
+by-one : (k n q : ℕ) (G : Type 0) → (k ≡ 10 → ⊥) → (G → Unread n q) → ((n ≡ k) × (q ≡ 0)) ⊎ G → Unread n q
+by-one k n q G h f (inl e) = record { number = λ z. h (sym (e .0) ∙ z); place = omega (arith, e .1) }
+by-one k n q G h f (inr g) = f g
+
+rows-unread : (sheet : List ℕ) (m : Part) (rows : List Row) (n q : ℕ) → readRows sheet m rows ≡ refused n q → Unread n q
+unfolding readRows readMembers
+rows-unread sheet m rows n q e =
+    let ds : List Row = directMembers (traceRoutes rows) in
+    by-one 6 n q _ (λ z. omega arith)
+    (λ f. by-one 7 n q _ (λ z. omega arith)
+    (λ g. by-one 8 n q _ (λ z. omega arith) (λ h. absurd (clash (cc)))
+    (unless-refused (eachOnce sheet ds && inRange (valuesAt m (placesOf sheet ds))) 8 _ n q g)) (unless-refused (eqb (length (traceRoutes rows)) 1) 7 _ n q f))
+    (unless-refused (traceHeader m) 6 _ n q e)
+
+pub read-refused : (tm : Terms) (buf : List ℕ) (len n q : ℕ) → readTrace tm buf len ≡ refused n q → Unread n q
+unfolding readTrace
+read-refused tm buf len n q e =
+    by-one 17 n q _ (λ z. omega arith) (λ f. part (then-refused (scan buf len) (readRows (tm .sheet) (partOf buf len)) n q f)) (unless-refused (sheetOk (tm .sheet)) 17 _ n q e)
+  where
+    part : (scan buf len ≡ refused n q) ⊎ ((rows : List Row) × (scan buf len ≡ accepted rows) × (readRows (tm .sheet) (partOf buf len) rows ≡ refused n q)) → Unread n q
+    part (inl g) = let f = scan-refused buf len n q g in record { number = λ z. omega (arith, f .number); place = f .place }
+    part (inr g) = rows-unread (tm .sheet) (partOf buf len) (g .0) n q (g .2)
