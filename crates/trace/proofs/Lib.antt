@@ -7,3 +7,4 @@ pub mod Turns
 pub mod Surveys
 pub mod Marking
 pub mod Locating
+pub mod Entries

@@ -5,3 +5,5 @@ pub mod Passing
 pub mod Groups
 pub mod Marks
 pub mod Locations
+pub mod Readings
+pub mod Activities

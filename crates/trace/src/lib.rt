@@ -1,4 +1,5 @@
 // Trace-route messages: the sheet, the header, the eight attributes, Compose, Read, the decisions, and Activity groups.
+mod activities;
 mod composition;
 mod decisions;
 mod groups;
@@ -7,8 +8,12 @@ mod location;
 mod members;
 mod passing;
 mod ranges;
+mod reading;
 mod sheet;
 
+pub use activities::Span;
+pub use activities::activity_group;
+pub use activities::activity_span;
 pub use composition::Composed;
 pub use composition::compose;
 pub use decisions::Decision;
@@ -21,4 +26,8 @@ pub use location::Answer;
 pub use location::Located;
 pub use location::locate;
 pub use ranges::in_range;
+pub use reading::Values;
+pub use reading::arrive;
+pub use reading::forward;
+pub use reading::read;
 pub use sheet::sheet_ok;

@@ -1,0 +1,83 @@
+-- What the entries hand out, from the trace that was read.
+-- Assumes nothing.
+use mathlib.Core.Path.{_≡_, refl, sym, ap, _∙_}
+use mathlib.Core.Bool.{Bool, true, false}
+use mathlib.Core.List.{List, [], _∷_}
+use Prim.Native.Nat.{ℕ, zero, suc, _+_, _-_, _≤_, _<_}
+use native.Mathlib.Omega.{arith}
+use lib.ListN.{length, getD, take, drop, List·getD-eq-default}
+use lib.Dec.{ltb}
+use borrow.Author.Tests.{ltb-true, ltb-false}
+use Rattle.meaning.specs.Answer.{Result, accepted, refused, andThen}
+use Rattle.meaning.specs.Message.{partOf, parameterCount}
+use Rattle.meaning.specs.Names.{«MQGACF_ACTIVITY»}
+use Rattle.meaning.specs.Trace.{Terms, Trace, Top, activities, readTrace}
+use Rattle.meaning.specs.Activity.{Span, bytesIn, sizeOf, spanOf, noGroup, nthActivity, activityGroup}
+use Rattle.meaning.proofs.Tests.{clash}
+use Rattle.meaning.proofs.Sound.{sound}
+use Rattle.meaning.proofs.Tops.{TopAt}
+use Rattle.answers.specs.Refusals.{numberOf, placeOf, refusal}
+use Rattle.trace.specs.Groups.{groupOf, counted}
+use Rattle.trace.specs.Locations.{Done, done, answerOf, Outcome, traced}
+use Rattle.trace.specs.Readings.{Reading, reading, given, valuesOf}
+use Rattle.trace.specs.Activities.{spanIn}
+use Rattle.trace.specs.declared.activities.Span.{Span as Parts}
+use Rattle.trace.specs.declared.location.Answer.{Answer}
+use Rattle.trace.specs.declared.location.Answer.the-variants.{Found, Refused}
+use Rattle.trace.specs.declared.reading.Values.{Values}
+use Rattle.trace.proofs.Locating.{nth-at}
+
+-- READ, from the trace
+same-refusal : {A : Type 0} (n p k q : ℕ) → _≡_ {A = Result Done} (refused n p) (refused k q) → _≡_ {A = Result A} (refused n p) (refused k q)
+same-refusal n p k q e = let f : n ≡ k = cc in let g : p ≡ q = cc in rw (f, g) refl
+
+pub read-traced : (n : ℕ) (r : Result Trace) (a : Answer) (v : List ℕ) → answerOf a ≡ traced n r .answer → v ≡ traced n r .values
+    → record { answer = given a v; values = v } ≡ reading (andThen r (λ t. accepted (t .values)))
+read-traced n (accepted t) Found v e f = rw f refl
+read-traced n (accepted t) (Refused r) v e f = absurd (clash (cc))
+read-traced n (refused k p) Found v e f = absurd (clash (cc))
+read-traced n (refused k p) (Refused r) v e f = rw (f, same-refusal {A = List ℕ} (numberOf r) (placeOf r) k p e) refl
+
+-- the answer that was read, by its case
+reading-answer : (r : Result (List ℕ)) → reading r .answer ≡ r
+reading-answer (accepted v) = refl
+reading-answer (refused k p) = refl
+
+pub read-is : (x : Values) (r : Result (List ℕ)) (a : Answer) → valuesOf x ≡ reading r → x .answer ≡ a → r ≡ given a (x .values)
+read-is x r a e f = sym (reading-answer r) ∙ sym (ap (λ (y : Reading). y .answer) e) ∙ ap (λ (y : Answer). given y (x .values)) f
+
+-- THE ACTIVITY GROUP that goes with the trace
+pub activity-traced : (n : ℕ) (r : Result Trace) → record { place = traced n r .activity .place; length = traced n r .activity .length } ≡ spanOf (nthActivity r n)
+unfolding counted groupOf sizeOf
+activity-traced n (accepted t) = refl
+activity-traced n (refused k p) = refl
+
+-- it lies in the message
+span-in : (tm : Terms) (buf : List ℕ) (len : ℕ) (t : Trace) → readTrace tm buf len ≡ accepted t → (n : ℕ) → spanOf (getD (activities (t .rows)) n noGroup) .place + spanOf (getD (activities (t .rows)) n noGroup) .length ≤ length buf
+unfolding sizeOf
+span-in tm buf len t e n = go (ltb n (length (activities (t .rows)))) refl
+  where
+    go : (b : Bool) → ltb n (length (activities (t .rows))) ≡ b → spanOf (getD (activities (t .rows)) n noGroup) .place + spanOf (getD (activities (t .rows)) n noGroup) .length ≤ length buf
+    go true h =
+        let s = sound tm buf len t e in
+        let g = nth-at (partOf buf len) 36 (parameterCount (partOf buf len)) (t .rows) (s .message .structures .tree) «MQGACF_ACTIVITY» n (ltb-true n (length (activities (t .rows))) h) in
+        omega (arith, g .fills, g .ends, s .lies .in-buffer)
+    go false h = rw (List·getD-eq-default (activities (t .rows)) noGroup (ltb-false n (length (activities (t .rows))) h)) (omega arith)
+
+pub activity-in : (tm : Terms) (buf : List ℕ) (len n : ℕ) → activityGroup tm buf len n .place + activityGroup tm buf len n .length ≤ length buf
+unfolding activityGroup sizeOf
+activity-in tm buf len n = go (readTrace tm buf len) refl
+  where
+    go : (r : Result Trace) → readTrace tm buf len ≡ r → spanOf (nthActivity r n) .place + spanOf (nthActivity r n) .length ≤ length buf
+    go (accepted t) e = span-in tm buf len t e n
+    go (refused k p) e = omega arith
+
+-- the part of the message that a span is
+module _ (buf : List ℕ) (s : Parts) (x : Span) (e : spanIn s ≡ x) where
+  pub span-end : x .place + x .length ≤ length buf → s .place + s .length ≤ length buf
+  span-end h = omega (arith, ap (λ (y : Span). y .place) e, ap (λ (y : Span). y .length) e)
+
+  pub span-bytes : take (s .place + s .length - s .place) (drop (s .place) buf) ≡ bytesIn buf x
+  span-bytes =
+      let d : s .place + s .length - s .place ≡ s .length = omega arith in
+      rw d (ap (bytesIn buf) e)

@@ -1,0 +1,32 @@
+-- `activities::activity_group` meets its contract: the part is the span's, and it lies in the message's memory.
+-- Assumes nothing.
+use mathlib.Core.Path.{refl}
+use Prim.Native.Nat.{_+_, _≤_}
+use native.Mathlib.Omega.{arith}
+use lib.ListN.{length}
+use denote.Ref.{now}
+use Rattle.trace.specs.Composes.{termsOf}
+use Rattle.trace.proofs.Entries.{activity-in, span-end, span-bytes}
+use borrow.Author.Needs.{needs}
+use Rattle.trace.proofs.activities.activity_group.Statement.{statement}
+use Rattle.trace.proofs.activities.activity_group.Tie as tie
+
+-- the part ends in the message
+ends : (c : tie.After-activity-span) → c .activity-span .result .place + c .activity-span .result .length ≤ length (now (c .before .before .args .msg))
+ends c =
+    let a = c .before .before .args in
+    span-end (now (a .msg)) _ _ (c .activity-span .ensures) (activity-in (termsOf (a .sheet)) (now (a .msg)) (a .len) (a .n))
+
+add-to : tie.Need-add-to
+add-to c = omega (arith, ends (c .before))
+
+part-result-end : tie.Need-part-result-end
+part-result-end c = ends (c .before)
+
+returns : tie.Need-returns
+returns c = (span-bytes (now (c .before .before .before .before .args .msg)) _ _ (c .before .before .activity-span .ensures), refl)
+
+pub activity-group-spec : {M : Type 1} → statement M
+activity-group-spec =
+    tie.close
+    (tie.spec (λ c κs. search needs) add-to (λ c. search needs) (λ c. search needs) part-result-end returns)

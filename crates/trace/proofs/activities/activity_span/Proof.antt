@@ -1,0 +1,22 @@
+-- `activities::activity_span` meets its contract.
+-- Assumes nothing.
+use mathlib.Core.Path.{_≡_, ap, _∙_}
+use denote.Ref.{now}
+use Rattle.meaning.specs.Trace.{readTrace}
+use Rattle.meaning.specs.Activity.{activityGroup}
+use Rattle.trace.specs.Composes.{termsOf}
+use Rattle.trace.specs.Locations.{Outcome}
+use Rattle.trace.proofs.Entries.{activity-traced}
+use borrow.Author.Needs.{needs}
+use Rattle.trace.proofs.activities.activity_span.Statement.{statement}
+use Rattle.trace.proofs.activities.activity_span.Tie as tie
+
+returns : tie.Need-returns
+unfolding activityGroup
+returns c =
+    let k = c .before in
+    let a = k .before .before .args in
+    ap (λ (x : Outcome). record { place = x .activity .place; length = x .activity .length }) (k .trace-of .ensures) ∙ activity-traced (a .n) (readTrace (termsOf (a .sheet)) (now (a .msg)) (a .len))
+
+pub activity-span-spec : {M : Type 1} → statement M
+activity-span-spec = tie.close (tie.spec (λ c κs. search needs) returns)
