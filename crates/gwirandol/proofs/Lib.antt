@@ -1,2 +1,3 @@
 mod Reach
 mod Steps
+mod Readings

@@ -1,8 +1,13 @@
 -- What the functions for traces answer, and what they leave.
 use Prim.Native.Nat.{ℕ}
 use mathlib.Core.Path.{_≡_}
-use mathlib.Core.List.{List}
-use Rattle.meaning.specs.Trace.{Terms}
+use mathlib.Core.List.{List, [], _∷_}
+use Rattle.meaning.specs.Answer.{Result, accepted, refused, andThen}
+use Rattle.meaning.specs.Trace.{Terms, read}
+use Rattle.meaning.specs.Decision.{Decision as Meant, forward, putLocally, withhold}
+use Rattle.meaning.specs.Activity.{Span, activityGroup}
+use Rattle.trace.specs.declared.decisions.Decision.{Decision}
+use Rattle.trace.specs.declared.decisions.Decision.the-variants.{Forward, PutLocally, Withhold}
 use Rattle.meaning.specs.Compose.{compose}
 use Rattle.gwirandol.specs.Codes.{code}
 
@@ -13,3 +18,35 @@ terms sheet = record { sheet = sheet }
 pub record Composes (sheet values before : List ℕ) (r : ℕ) (after : List ℕ) : Type 0 where
   pub answer : r ≡ code (compose (terms sheet) values before .answer)
   pub buffer : after ≡ compose (terms sheet) values before .buffer
+
+-- READ: 0, and the values; a refusal leaves them
+abbrev pub readCode : Result (List ℕ) → ℕ
+readCode (accepted v) = 0
+readCode (refused n p) = code (refused n p)
+
+abbrev pub valuesIn : List ℕ → Result (List ℕ) → List ℕ
+valuesIn before (accepted v) = v
+valuesIn before (refused n p) = before
+
+pub record Reads (buf : List ℕ) (len : ℕ) (sheet before : List ℕ) (r : ℕ) (after : List ℕ) : Type 0 where
+  pub answer : r ≡ readCode (read (terms sheet) buf len)
+  pub values : after ≡ valuesIn before (read (terms sheet) buf len)
+
+-- DECISIONS as numbers
+abbrev pub numberIn : Meant → ℕ
+numberIn forward = 1
+numberIn putLocally = 2
+numberIn withhold = 3
+
+abbrev pub decided : Result Meant → Result ℕ
+decided (accepted d) = accepted (numberIn d)
+decided (refused n p) = refused n p
+
+abbrev pub decisionOf : Decision → ℕ
+decisionOf Forward = 1
+decisionOf PutLocally = 2
+decisionOf Withhold = 3
+
+-- THE N-TH ACTIVITY GROUP: place and length
+abbrev pub Spans : List ℕ → ℕ → List ℕ → ℕ → List ℕ → Type 0
+Spans buf len sheet n part = part ≡ activityGroup (terms sheet) buf len n .place ∷ activityGroup (terms sheet) buf len n .length ∷ []

@@ -1,11 +1,16 @@
 // Compose, read, the decisions, Activity groups and names.
 use crate::code::given;
 use crate::code::refused;
+use trace::Answer;
 use trace::Composed;
+use trace::Decision;
+use trace::Judged;
 ghost use mathlib.Core.Path.{_≡_};
 ghost use Rattle.gwirandol.specs.Codes.{code, Fits};
-ghost use Rattle.gwirandol.specs.Traces.{Composes};
+ghost use Rattle.gwirandol.specs.Traces.{Composes, Reads, decisionOf, decided, Spans, terms};
+ghost use Rattle.meaning.specs.Decision.{forwarding, arrival};
 ghost use Rattle.trace.specs.Composes.{composedOf};
+ghost use Rattle.trace.specs.Decisions.{judgedOf};
 
 // Compose's answer.
 fn composed(found: Composed) -> u64
@@ -26,4 +31,72 @@ pub extern "C" fn gw_compose(sheet: &[u32; 8], values: &[u32; 8], buffer: &mut [
     let s = *sheet;
     let v = *values;
     composed(trace::compose(s, v, buffer))
+}
+
+// READ: 0 and the eight values, or 17, then 1 to 8 and the values stay.
+#[no_mangle]
+pub extern "C" fn gw_read(buffer: &[u8], length: usize, sheet: &[u32; 8], values: &mut [u32; 8]) -> u64
+    ensures { λ r. ⌜ Reads (now (buffer .entry)) length (now (sheet .entry)) (now (values .entry)) r (now (values .exit)) ⌝ }
+{
+    let s = *sheet;
+    let found = trace::read(buffer, length, s);
+    let answer = found.answer;
+    match answer {
+        Answer::Refused(r) => refused(r),
+        Answer::Found => {
+            let told = found.values;
+            *values = told;
+            0
+        }
+    }
+}
+
+// A decision's number for C.
+fn number_of(decision: Decision) -> usize
+    ensures { λ r. ⌜ r ≡ decisionOf decision ⌝ }
+{
+    match decision {
+        Decision::Forward => 1,
+        Decision::PutLocally => 2,
+        Decision::Withhold => 3,
+    }
+}
+
+// A decision, or the refusal.
+fn judged(found: Judged) -> u64
+    requires { ⌜ Fits (decided (judgedOf found)) ⌝ }
+    ensures { λ r. ⌜ r ≡ code (decided (judgedOf found)) ⌝ }
+{
+    match found {
+        Judged::Decided(d) => given(number_of(d)),
+        Judged::Refused(r) => refused(r),
+    }
+}
+
+// FORWARDING: 1, or Read's refusals, then 14, 15 and 16.
+#[no_mangle]
+pub extern "C" fn gw_forward(buffer: &[u8], length: usize, sheet: &[u32; 8], supporting: bool) -> u64
+    ensures { λ r. ⌜ r ≡ code (decided (forwarding (terms (now (sheet .entry))) (now (buffer .entry)) length supporting)) ⌝ }
+{
+    let s = *sheet;
+    judged(trace::forward(buffer, length, s, supporting))
+}
+
+// ARRIVAL: 2 to put, 3 to withhold, or Read's refusals, then 14.
+#[no_mangle]
+pub extern "C" fn gw_arrive(buffer: &[u8], length: usize, sheet: &[u32; 8]) -> u64
+    ensures { λ r. ⌜ r ≡ code (decided (arrival (terms (now (sheet .entry))) (now (buffer .entry)) length)) ⌝ }
+{
+    let s = *sheet;
+    judged(trace::arrive(buffer, length, s))
+}
+
+// THE N-TH ACTIVITY GROUP: its place and length, 0 and 0 if there is none.
+#[no_mangle]
+pub extern "C" fn gw_activity_group(buffer: &[u8], length: usize, sheet: &[u32; 8], n: usize, part: &mut [u64; 2])
+    ensures { λ _. ⌜ Spans (now (buffer .entry)) length (now (sheet .entry)) n (now (part .exit)) ⌝ }
+{
+    let s = *sheet;
+    let span = trace::activity_span(buffer, length, s, n);
+    *part = [span.place as u64, span.length as u64];
 }

@@ -1,0 +1,18 @@
+-- `traces::gw_arrive` meets its contract.
+use mathlib.Core.Path.{_≡_, sym, ap, _∙_, subst}
+use borrow.Author.Needs.{needs}
+use Rattle.gwirandol.specs.Codes.{code, Fits}
+use Rattle.gwirandol.specs.Traces.{decided}
+use Rattle.meaning.specs.Answer.{Result}
+use Rattle.meaning.specs.Decision.{Decision}
+use Rattle.gwirandol.proofs.Reach.{arrive-fits}
+use Rattle.gwirandol.proofs.traces.gw_arrive.Statement.{statement}
+use Rattle.gwirandol.proofs.traces.gw_arrive.Tie as tie
+
+pub gw-arrive-spec : {M : Type 1} → statement M
+gw-arrive-spec =
+    tie.close
+    (tie.spec
+    (λ c κs. search needs)
+    (λ c κs. subst (λ (x : Result Decision). Fits (decided x)) (sym (c .arrive .ensures)) (arrive-fits _ _ _))
+    (λ c. c .judged .ensures ∙ ap (λ (x : Result Decision). code (decided x)) (c .before .arrive .ensures)))
