@@ -1,6 +1,6 @@
 // The refusals of document 01: one case each, and its number and place.
 ghost use mathlib.Core.Path.{_≡_};
-ghost use Rattle.answers.specs.Refusals.{numberOf, placeOf};
+ghost use Rattle.answers.specs.Refusals.{numberOf, placeOf, owed};
 
 // What an entry answers when it gives nothing. A case holds its place where document 01's table has one that is not 0.
 pub enum Refusal {
@@ -74,5 +74,15 @@ pub fn place(r: Refusal) -> usize
         Refusal::TooDeep(at) => at,
         Refusal::LeftOver(at) => at,
         _ => 0,
+    }
+}
+
+// Whether a reply is owed.
+pub fn reply_owed(r: Refusal) -> bool
+    ensures { λ b. ⌜ b ≡ owed r ⌝ }
+{
+    match r {
+        Refusal::MaxActivities(reply) => reply,
+        _ => false,
     }
 }

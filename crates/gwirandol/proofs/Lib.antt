@@ -1,3 +1,4 @@
 mod Reach
 mod Steps
 mod Readings
+mod Applied

@@ -1,7 +1,7 @@
 -- Every answer fits its number: places and lengths are small.
 use mathlib.Core.Path.{_≡_, refl, sym, ap, _∙_, subst}
 use mathlib.Core.List.{List}
-use Prim.Native.Nat.{ℕ, _*_, _≤_}
+use Prim.Native.Nat.{ℕ, _*_, _≤_, _<_}
 use native.Mathlib.Omega.{arith}
 use lib.ListN.{length}
 use lib.Dec.{leb}
@@ -15,6 +15,9 @@ use Rattle.trace.specs.Decisions.{judgedOf}
 use Rattle.trace.specs.declared.decisions.Decision.{Decision as Decided}
 use Rattle.trace.specs.declared.decisions.Decision.the-variants.{Forward, PutLocally, Withhold}
 use Rattle.trace.specs.declared.decisions.Judged.the-variants.{Decided as Decides}
+use Rattle.answers.specs.Refusals.{numberOf}
+use Rattle.answers.specs.declared.Refusal.{Refusal}
+use Rattle.answers.specs.declared.Refusal.the-variants.{BadLength, BadHeader, BadStructure, TooDeep, LeftOver, NoTraceHeader, NoTraceRoute, BadAttribute, BadGroup, MaxActivities, CounterFull, NoRoom, ReportTooShort, UnsupportedDelivery, UnsupportedForwarding, NotForwarded, BadSheet}
 use Rattle.meaning.specs.Compose.{composedLength, valuesOk, composeAnswer, compose}
 use Rattle.meaning.specs.Structure.{Row}
 use Rattle.meaning.specs.Message.{partOf, scan, check}
@@ -24,6 +27,26 @@ use Rattle.meaning.proofs.Outcomes.{Accepted, scan-accepted, scan-refused, read
 use Rattle.meaning.proofs.Lines.{listing-most}
 use Rattle.gwirandol.specs.Codes.{code, Fits}
 use Rattle.gwirandol.specs.Traces.{decided, decisionOf}
+
+-- a refusal's number is below 32: number and place can be told from the answer
+pub number-below : (r : Refusal) → numberOf r < 32
+number-below BadLength = omega arith
+number-below BadHeader = omega arith
+number-below (BadStructure p) = omega arith
+number-below (TooDeep p) = omega arith
+number-below (LeftOver p) = omega arith
+number-below NoTraceHeader = omega arith
+number-below NoTraceRoute = omega arith
+number-below BadAttribute = omega arith
+number-below BadGroup = omega arith
+number-below (MaxActivities owed) = omega arith
+number-below CounterFull = omega arith
+number-below NoRoom = omega arith
+number-below ReportTooShort = omega arith
+number-below UnsupportedDelivery = omega arith
+number-below UnsupportedForwarding = omega arith
+number-below NotForwarded = omega arith
+number-below BadSheet = omega arith
 
 check-of : (buf : List ℕ) (len : ℕ) (r : Result (List Row)) → scan buf len ≡ r → Fits (andThen r (λ rows. accepted (length rows)))
 check-of buf len (accepted rows) e = let a = scan-accepted buf len rows e in omega (arith, rows-room (a .walks), a .size .most)

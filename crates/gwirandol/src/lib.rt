@@ -1,4 +1,5 @@
 // The functions for C: libgwirandol.a, declared in include/gwirandol.h.
 mod code;
+mod events;
 mod structures;
 mod traces;

@@ -1,0 +1,101 @@
+-- An event for C: its answer fits, and is told with what is left.
+use mathlib.Core.Path.{_≡_, refl, sym, ap, _∙_, subst}
+use mathlib.Core.Bool.{Bool, true, false, cond, not, _&&_}
+use mathlib.Core.List.{List, [], _∷_}
+use Prim.Native.Nat.{ℕ, _+_, _*_, _≤_}
+use native.Mathlib.Omega.{arith}
+use lib.ListN.{length}
+use lib.Dec.{leb, eqb}
+use borrow.Author.Tests.{leb-true}
+use Rattle.meaning.specs.Names.{mostBytes, mostCount}
+use Rattle.meaning.specs.Answer.{Result, accepted, refused, when, unless}
+use Rattle.meaning.specs.Trace.{Trace, value, readTrace}
+use Rattle.meaning.specs.Event.{Level as Rank, Event, activity, Answer, done, denied, Plan, State, Outcome, overLimit, replyOwed, reportLength, doneBy, decide, soundEvent, groupOf, planOf, performed, decided, leaving, onRead, onTrace, event}
+use Rattle.meaning.proofs.Tests.{clash}
+use Rattle.meaning.proofs.Sound.{sound}
+use Rattle.meaning.proofs.Outcomes.{read-refused}
+use Rattle.answers.specs.Refusals.{numberOf, placeOf, owed}
+use Rattle.answers.specs.declared.Refusal.{Refusal}
+use Rattle.event.specs.Events.{answerOf, counterOf, outcome, levelOf, activityOf, settingsOf}
+use Rattle.event.specs.declared.plan.Level.{Level}
+use Rattle.event.specs.declared.plan.Settings.{Settings}
+use Rattle.event.specs.declared.verdict.Done.{Done}
+use Rattle.event.specs.declared.verdict.Answer.{Answer as Said}
+use Rattle.event.specs.declared.verdict.Answer.the-variants as answer
+use Rattle.gwirandol.specs.Traces.{terms}
+use Rattle.gwirandol.specs.Events.{levelIn, activityIn, Brief, Tells, Applies}
+
+-- THE ANSWER is brief: a message that is appended to stays below the most bytes
+when-brief : (b : Bool) (x y : Answer) → Brief x → (b ≡ false → Brief y) → Brief (when b x y)
+when-brief true x y f g = f
+when-brief false x y f g = g refl
+
+done-brief : (appends room : Bool) (size len : ℕ) → len ≤ 65536 → appends && not (room && leb (len + size) mostBytes) ≡ false → len + cond appends size 0 ≤ 65536
+done-brief false room size len h e = omega arith
+done-brief true false size len h e = absurd (clash (cc))
+done-brief true true size len h e = by (leb (len + size) mostBytes) refl e
+  where
+    by : (b : Bool) → leb (len + size) mostBytes ≡ b → not b ≡ false → len + size ≤ 65536
+    by true q f = leb-true (len + size) mostBytes q
+    by false q f = absurd (clash (cc))
+
+decide-brief : (v : List ℕ) (p : Plan) (size len room reportRoom : ℕ) → len ≤ 65536 → Brief (decide v p size len room reportRoom)
+unfolding decide
+decide-brief v p size len room reportRoom h =
+    when-brief (overLimit v) _ _ (omega arith) (λ _.
+    when-brief (eqb (value v (p .counter)) mostCount) _ _ (omega arith) (λ _.
+    when-brief (p .appends && not (leb (len + size) room && leb (len + size) mostBytes)) _ _ (omega arith) (λ e.
+    when-brief (p .reports && not (leb (reportLength size) reportRoom)) _ _ (omega arith) (λ _.
+    done-brief (p .appends) (leb (len + size) room) size len h e))))
+
+left-brief : (st st′ : State) (a : Answer) → Brief a → Brief (leaving st st′ a .answer)
+left-brief st st′ (done d) f = f
+left-brief st st′ (denied n p o) f = f
+
+pub event-brief : (sheet : List ℕ) (st : State) (e : Event) → Brief (event (terms sheet) st e .answer)
+unfolding event onTrace
+event-brief sheet st e = by (readTrace (terms sheet) (st .buf) (st .len)) refl
+  where
+    go : (t : Trace) → st .len ≤ 65536 → (b : Bool)
+        → Brief (unless b (record { answer = denied 9 0 false; next = st }) (leaving st (performed st e t) (decided st e (t .values))) .answer)
+    go t h true = left-brief st (performed st e t) (decided st e (t .values)) (decide-brief _ _ _ _ _ _ h)
+    go t h false = omega arith
+
+    by : (x : Result Trace) → readTrace (terms sheet) (st .buf) (st .len) ≡ x → Brief (onRead st e x .answer)
+    by (accepted t) h = go t (sound (terms sheet) (st .buf) (st .len) t h .lies .in-most) (soundEvent e)
+    by (refused n p) h = read-refused (terms sheet) (st .buf) (st .len) n p h .place
+
+-- a flag is a bit
+pub bit : (b : Bool) → cond b 1 0 ≤ 1
+bit true = omega arith
+bit false = omega arith
+
+-- A TOLD ANSWER, by its cases
+pub told-denied : (x : Said) (r : Refusal) → x ≡ answer.Refused r → (before : List ℕ) (n : ℕ)
+    → n ≡ (placeOf r + cond (owed r) 1 0) * 32 + numberOf r → Tells (answerOf x) before n before
+told-denied x r e before n c = rw e (record { answer = c; done = refl })
+
+pub told-done : (x : Said) (d : Done) → x ≡ answer.Done d → (before : List ℕ) (n counter appended : ℕ)
+    → n ≡ d .message * 32 → counter ≡ counterOf (d .counter) → appended ≡ cond (d .appended) 1 0
+    → Tells (answerOf x) before n (counter ∷ appended ∷ d .report ∷ d .message ∷ [])
+told-done x d e before n counter appended c f g = rw e (record { answer = c; done = rw (f, g) refl })
+
+-- an activity by its level's number
+pub at-level : (o : Outcome) (sheet : List ℕ) (st : State) (l : Level) (n : ℕ) (g : List ℕ) (asked : Bool) (s : Settings) → levelOf l ≡ levelIn n
+    → o ≡ event (terms sheet) st (activityOf l g asked s) → o ≡ event (terms sheet) st (activityIn n g asked (s .recording) (s .messaging))
+at-level o sheet st l n g asked s e h = h ∙ ap (λ (k : Rank). event (terms sheet) st (activity (record { level = k; group = g; reportsAsked = asked }) (settingsOf s))) e
+
+-- WHAT IS TOLD of an event that answers x
+module _ (sheet : List ℕ) (st : State) (e : Event) (x : Said) (len : ℕ) (buf report : List ℕ) (h : outcome x len buf report ≡ event (terms sheet) st e) where
+  answered : answerOf x ≡ event (terms sheet) st e .answer
+  answered = ap (λ (o : Outcome). o .answer) h
+
+  pub brief : Brief (answerOf x)
+  brief = subst Brief (sym answered) (event-brief sheet st e)
+
+  pub applies : (before : List ℕ) (r : ℕ) (after : List ℕ) → Tells (answerOf x) before r after → Applies sheet st e before r after buf report
+  applies before r after t = record {
+    told = subst (λ (a : Answer). Tells a before r after) answered t;
+    buffer = ap (λ (o : Outcome). o .next .buf) h;
+    reported = ap (λ (o : Outcome). o .next .report) h;
+  }
