@@ -28,3 +28,4 @@ pub mod Members
 pub mod Scans
 pub mod Writing
 pub mod Tops
+pub mod Strings
