@@ -1,16 +1,16 @@
 -- The first string with an identifier, one direct member after the other, and the name that it is.
 -- Assumes nothing.
-use mathlib.Core.Path.{_≡_, refl, sym, ap, _∙_}
+use mathlib.Core.Path.{_≡_, refl, sym, ap, _∙_, subst}
 use mathlib.Core.Bool.{Bool, true, false, _&&_}
 use mathlib.Core.List.{List, [], _∷_, _++_}
 use Prim.Native.Nat.{ℕ, _+_, _-_, _≤_, _<_}
 use native.Mathlib.Omega.{arith}
-use lib.ListN.{length, getD, take, drop, length-drop}
+use lib.ListN.{length, getD, take, drop, length-take, length-drop, List·getD-eq-default}
 use lib.Seq.{length-take-le, getD-drop}
 use lib.Dec.{ltb, eqb}
 use borrow.Author.Tests.{ltb-true, ltb-false, eqb-true, eq-eqb, ne-eqb}
 use Rattle.meaning.specs.Bytes.{Part, num}
-use Rattle.meaning.specs.Names.{«MQCFT_STRING», «MQGACF_ACTIVITY»}
+use Rattle.meaning.specs.Names.{mostBytes, «MQCFT_STRING», «MQGACF_ACTIVITY»}
 use Rattle.meaning.specs.Answer.{Result, accepted, refused, andThen, consIf}
 use Rattle.meaning.specs.Structure.{Row}
 use Rattle.meaning.specs.Walk.{Walked, walked, walk}
@@ -26,7 +26,9 @@ use Rattle.meaning.proofs.Tops.{TopAt}
 use Rattle.meaning.proofs.Strings.{walks-data, trim-pad, trim-other, take-last, trim-le}
 use Rattle.trace.specs.Passing.{passed}
 use Rattle.trace.specs.Groups.{groupOf, counted}
+use Rattle.trace.specs.Locations.{Done, done, Outcome, traced}
 use Rattle.trace.specs.Naming.{firstData, stringIn, isSound}
+use Rattle.trace.specs.declared.groups.Group.{Group}
 use Rattle.trace.proofs.Turns.{Over, walk-halt, walk-over}
 use Rattle.trace.proofs.Marking.{Every, every-if, every-named, every-direct, next-direct}
 use Rattle.trace.proofs.Locating.{nth-at}
@@ -120,3 +122,120 @@ module _ (buf : List ℕ) (place n : ℕ) (some : 0 < n) (h : place + n ≤ leng
 pub kept-none : (buf : List ℕ) (place n : ℕ) → n ≤ 0 → length (trimmed (take n (drop place buf))) ≡ 0
 unfolding trimmed
 kept-none buf place n h = let z : n ≡ 0 = omega arith in rw z refl
+
+length-take-most : (n : ℕ) (l : List ℕ) → length (take n l) ≤ n
+length-take-most n l = rw (length-take n l) (omega arith)
+
+-- THE NAME from the data that were found
+module _ (buf : List ℕ) (len : ℕ) where
+  name-none : (rows : List Row) → firstData (partOf buf len) rows ≡ substitute → firstName buf len rows ≡ substitute
+  name-none [] e = refl
+  name-none (r ∷ rs) e = absurd (clash (cc))
+
+  name-some : (rows : List Row) (s : Span) → firstData (partOf buf len) rows ≡ inMessage s → firstName buf len rows ≡ inMessage (trimmedAt buf s)
+  name-some [] s e = absurd (clash (cc))
+  name-some (r ∷ rs) s e = let f : stringAt (partOf buf len) (r .place) ≡ s = cc in ap (λ (x : Span). inMessage (trimmedAt buf x)) f
+
+  name-data : (rows : List Row) (s : Span) → firstName buf len rows ≡ inMessage s → (d : Span) × (firstData (partOf buf len) rows ≡ inMessage d) × (trimmedAt buf d ≡ s)
+  name-data [] s e = absurd (clash (cc))
+  name-data (r ∷ rs) s e = (stringAt (partOf buf len) (r .place), refl, cc)
+
+-- a trace that was found, and the Activity group with it
+found-trace : (n : ℕ) (r : Result Trace) (o : Outcome) → o ≡ traced n r → o .answer ≡ accepted done
+    → (t : Trace) × (r ≡ accepted t) × (o .activity ≡ counted «MQGACF_ACTIVITY» n (t .rows) .group)
+found-trace n (accepted t) o h f = (t, refl, ap (λ (x : Outcome). x .activity) h)
+found-trace n (refused k p) o h f =
+    let e : _≡_ {A = Result Done} (refused k p) (accepted done) = sym (ap (λ (x : Outcome). x .answer) h) ∙ f in
+    absurd (clash (cc))
+
+lost-trace : (n : ℕ) (r : Result Trace) (o : Outcome) (k p : ℕ) → o ≡ traced n r → o .answer ≡ refused k p → r ≡ refused k p
+lost-trace n (accepted t) o k p h f =
+    let e : _≡_ {A = Result Done} (accepted done) (refused k p) = sym (ap (λ (x : Outcome). x .answer) h) ∙ f in
+    absurd (clash (cc))
+lost-trace n (refused k′ p′) o k p h f =
+    let e : _≡_ {A = Result Done} (refused k′ p′) (refused k p) = sym (ap (λ (x : Outcome). x .answer) h) ∙ f in
+    cc
+
+module _ (tm : Terms) (buf : List ℕ) (len n id : ℕ) (o : Outcome) (h : o ≡ traced n (readTrace tm buf len)) where
+  abbrev m : Part
+  m = partOf buf len
+
+  pub name-lost : (k p : ℕ) → o .answer ≡ refused k p → substitute ≡ nameOf tm buf len n id
+  unfolding nameOf directIn strings named
+  name-lost k p f = rw (lost-trace n (readTrace tm buf len) o k p h f) refl
+
+  module _ (f : o .answer ≡ accepted done) where
+    trace : (t : Trace) × (readTrace tm buf len ≡ accepted t) × (o .activity ≡ counted «MQGACF_ACTIVITY» n (t .rows) .group)
+    trace = found-trace n (readTrace tm buf len) o h f
+
+    facts : Sound tm buf len (trace .0)
+    facts = sound tm buf len (trace .0) (trace .1)
+
+    pub message-in : (len ≤ length buf) × (len ≤ mostBytes)
+    message-in = (facts .lies .in-buffer, facts .lies .in-most)
+
+    abbrev top : Top
+    top = getD (activities (trace .0 .rows)) n noGroup
+
+    abbrev strings-in : List Row
+    strings-in = named id (strings (directIn (top .inside)))
+
+    -- the walk inside the group goes over the rows that the meaning has inside it
+    inside : (q : ℕ) × (walk m (o .activity .inside) 2 (o .activity .members) ≡ walked (top .inside) q)
+    unfolding counted groupOf
+    inside =
+        subst (λ (g : Group). (q : ℕ) × (walk m (g .inside) 2 (g .members) ≡ walked (top .inside) q)) (sym (trace .2))
+        (go (ltb n (length (activities (trace .0 .rows)))) refl)
+      where
+        go : (b : Bool) → ltb n (length (activities (trace .0 .rows))) ≡ b
+            → (q : ℕ) × (walk m (top .row .place + top .row .size) 2 (top .row .members) ≡ walked (top .inside) q)
+        go true e =
+            let g = nth-at m 36 (parameterCount m) (trace .0 .rows) (facts .message .structures .tree) «MQGACF_ACTIVITY» n (ltb-true n (length (activities (trace .0 .rows))) e) in
+            (g .next, walk-of (g .within) (g .ends))
+        go false e = rw (List·getD-eq-default (activities (trace .0 .rows)) noGroup (ltb-false n (length (activities (trace .0 .rows))) e)) (0, walk-zero m 0 2)
+
+    pub group-whole : isSound (walk m (o .activity .inside) 2 (o .activity .members)) ≡ true
+    group-whole = ap isSound (inside .1)
+
+    is-name : nameOf tm buf len n id ≡ firstName buf len strings-in
+    unfolding nameOf
+    is-name = ap (λ (r : Result Trace). firstName buf len (named id (strings (directIn (nthActivity r n .inside))))) (trace .1)
+
+    found-data : (x : Name) → stringIn m id (walk m (o .activity .inside) 2 (o .activity .members)) ≡ x → firstData m strings-in ≡ x
+    found-data x e = sym (ap (stringIn m id) (inside .1)) ∙ e
+
+    data-end : (s : Span) → firstData m strings-in ≡ inMessage s → s .place + s .length ≤ length buf
+    data-end s e =
+        let w = walks m (o .activity .inside) 2 (o .activity .members) (top .inside) (inside .0) (inside .1) in
+        let P : Row → Type 0 = λ r. (r .kind ≡ «MQCFT_STRING» → r .place + 20 + num m (r .place + 16) ≤ len) in
+        let all = every-named (λ r. P r × (r .kind ≡ «MQCFT_STRING»)) id (strings (directIn (top .inside))) (every-string P (directIn (top .inside)) (every-direct P (top .inside) (λ r i. walks-data w r i))) in
+        let g = first-of (λ r. P r × (r .kind ≡ «MQCFT_STRING»)) m strings-in s all e in
+        omega (arith, g .1 .0 (g .1 .1), ap (λ (x : Span). x .place) (g .2), ap (λ (x : Span). x .length) (g .2), message-in .0)
+
+    pub name-missing : stringIn m id (walk m (o .activity .inside) 2 (o .activity .members)) ≡ substitute → substitute ≡ nameOf tm buf len n id
+    name-missing e = sym (is-name ∙ name-none buf len strings-in (found-data substitute e))
+
+    module _ (s : Span) (e : stringIn m id (walk m (o .activity .inside) 2 (o .activity .members)) ≡ inMessage s) where
+      pub string-fits : s .place + s .length ≤ length buf
+      string-fits = data-end s (found-data (inMessage s) e)
+
+      pub name-found : inMessage (trimmedAt buf s) ≡ nameOf tm buf len n id
+      name-found = sym (is-name ∙ name-some buf len strings-in s (found-data (inMessage s) e))
+
+    -- a name lies in the message
+    name-ends : (s : Span) → nameOf tm buf len n id ≡ inMessage s → s .place + s .length ≤ length buf
+    name-ends s e =
+        let g = name-data buf len strings-in s (sym is-name ∙ e) in
+        omega (arith, data-end (g .0) (g .1), ap (λ (x : Span). x .place) (g .2), ap (λ (x : Span). x .length) (g .2), trim-le (bytesIn buf (g .0)), bytes-le (g .0))
+      where
+        bytes-le : (d : Span) → length (bytesIn buf d) ≤ d .length
+        bytes-le d = length-take-most (d .length) (drop (d .place) buf)
+
+pub name-in : (tm : Terms) (buf : List ℕ) (len n id : ℕ) (s : Span) → nameOf tm buf len n id ≡ inMessage s → s .place + s .length ≤ length buf
+name-in tm buf len n id s e = go (traced n (readTrace tm buf len) .answer) refl
+  where
+    go : (a : Result Done) → traced n (readTrace tm buf len) .answer ≡ a → s .place + s .length ≤ length buf
+    go (accepted done) f = name-ends tm buf len n id (traced n (readTrace tm buf len)) refl f s e
+    go (refused k p) f =
+        let z : substitute ≡ inMessage s = name-lost tm buf len n id (traced n (readTrace tm buf len)) refl k p f ∙ e in
+        absurd (clash (cc))

@@ -56,9 +56,10 @@ loop-again c =
     let l = c .before .before .before .before .before .before .before .before in
     let a = l .before .before .args in
     let o = over _ _ _ _ _ (is-step (c .before .before .before .before .before .before .pass .ensures) (c .before .before .before .before .stepped .given .1)) in
-    let due = c .before .before .before .before .before .before .before .loop-test .taken in
-    (l .loop .inv .0 ∙ string-miss (partOf (now (a .msg)) (a .len)) (l .loop .at) (l .loop .left) (a .id) due (l .loop .inv .1) _ _ o (c .if1 .left),
-     sound-next (partOf (now (a .msg)) (a .len)) (l .loop .at) (l .loop .left) (a .id) due (l .loop .inv .1) _ _ o)
+    let due = c .before .before .before .before .before .before .before .loop-test .taken in (
+      l .loop .inv .0 ∙ string-miss (partOf (now (a .msg)) (a .len)) (l .loop .at) (l .loop .left) (a .id) due (l .loop .inv .1) _ _ o (c .if1 .left),
+      sound-next (partOf (now (a .msg)) (a .len)) (l .loop .at) (l .loop .left) (a .id) due (l .loop .inv .1) _ _ o,
+    )
 
 returns-3 : tie.Need-returns-3 Inv-loop μ-loop
 returns-3 c =
