@@ -32,3 +32,4 @@ pub mod Lines
 pub mod Outcomes
 pub mod Writing
 pub mod Tops
+pub mod Strings

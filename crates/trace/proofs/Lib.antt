@@ -8,3 +8,4 @@ pub mod Surveys
 pub mod Marking
 pub mod Locating
 pub mod Entries
+pub mod Namings

@@ -34,15 +34,15 @@ use Rattle.trace.proofs.Turns.{endOf, end-next, end-refused}
 
 -- WHERE THE MEMBERS of a group stand: behind its start, and in the message
 module _ (m : Part) (p n : ℕ) where
-  every-row : (w : Result Walked) → walk m p 2 n ≡ w → Every (λ q. (p ≤ q) × (q + 16 ≤ m .end)) (rowsIn w)
+  every-row : (w : Result Walked) → walk m p 2 n ≡ w → Every (λ r. (p ≤ r .place) × (r .place + 16 ≤ m .end)) (rowsIn w)
   every-row (accepted w) e r i =
       let t = tiles (walks m p 2 n (w .rows) (w .next) e) in
       let g = tiles-row m p (w .rows) (w .next) t r i in
       (tiles-from m p (w .rows) (w .next) t r i, omega (arith, g .at-fits, g .at-least))
   every-row (refused k q) e r i = absurd (in-nil i)
 
-  pub every-member : Every (λ q. (p ≤ q) × (q + 16 ≤ m .end)) (directIn (rowsIn (walk m p 2 n)))
-  every-member = every-direct (λ q. (p ≤ q) × (q + 16 ≤ m .end)) (rowsIn (walk m p 2 n)) (every-row (walk m p 2 n) refl)
+  pub every-member : Every (λ r. (p ≤ r .place) × (r .place + 16 ≤ m .end)) (directIn (rowsIn (walk m p 2 n)))
+  every-member = every-direct (λ r. (p ≤ r .place) × (r .place + 16 ≤ m .end)) (rowsIn (walk m p 2 n)) (every-row (walk m p 2 n) refl)
 
   pub members-placed : 2 ≤ p → Placed (directIn (rowsIn (walk m p 2 n)))
   members-placed h r i = omega (arith, every-member r i .0)

@@ -93,13 +93,13 @@ positive r h = go (eqb (r .kind) «MQCFT_INTEGER»)
     go true = omega arith
     go false = omega arith
 
--- what holds of every row's place
-abbrev pub Every : (ℕ → Type 0) → List Row → Type 0
-Every P rows = (r : Row) → In r rows → P (r .place)
+-- what holds of every row
+abbrev pub Every : (Row → Type 0) → List Row → Type 0
+Every P rows = (r : Row) → In r rows → P r
 
 -- rows that stand behind the place 1
 abbrev pub Placed : List Row → Type 0
-Placed rows = Every (λ p. 1 < p) rows
+Placed rows = Every (λ r. 1 < r .place) rows
 
 -- exactly one and an integer: the mark is its place; otherwise it is no place
 mark-once : (rows : List Row) → Placed rows → (ltb 1 (ontoAll 0 rows) ≡ oneInteger rows) × (oneInteger rows ≡ true → ontoAll 0 rows ≡ placeOfFirst rows)
@@ -110,22 +110,22 @@ mark-once (r ∷ q ∷ rs) h =
     let e : ontoAll (onto (onto 0 r) q) rs ≡ 1 = ap (λ (k : ℕ). ontoAll k rs) (onto-second (onto 0 r) q (positive r (h r (here refl)))) ∙ fault-stays rs in
     (ap (ltb 1) e, λ z. absurd (clash (cc)))
 
-every-if : (P : ℕ → Type 0) (b : Bool) (x : Row) (xs rest : List Row) → Every P (x ∷ xs) → Every P rest → Every P (consIf b x rest)
+pub every-if : (P : Row → Type 0) (b : Bool) (x : Row) (xs rest : List Row) → Every P (x ∷ xs) → Every P rest → Every P (consIf b x rest)
 every-if P true x xs rest h ih r (here e) = h r (here e)
 every-if P true x xs rest h ih r (there i) = ih r i
 every-if P false x xs rest h ih r i = ih r i
 
-pub every-named : (P : ℕ → Type 0) (id : ℕ) (rows : List Row) → Every P rows → Every P (named id rows)
+pub every-named : (P : Row → Type 0) (id : ℕ) (rows : List Row) → Every P rows → Every P (named id rows)
 unfolding named
 every-named P id [] h = h
 every-named P id (x ∷ xs) h = every-if P (eqb (x .parameter) id) x xs (named id xs) h (every-named P id xs (λ r i. h r (there i)))
 
-pub every-direct : (P : ℕ → Type 0) (rows : List Row) → Every P rows → Every P (directIn rows)
+pub every-direct : (P : Row → Type 0) (rows : List Row) → Every P rows → Every P (directIn rows)
 unfolding directIn
 every-direct P [] h = h
 every-direct P (x ∷ xs) h = every-if P (isDirect x) x xs (directIn xs) h (every-direct P xs (λ r i. h r (there i)))
 
-pub once-place : (P : ℕ → Type 0) (rows : List Row) → oneInteger rows ≡ true → Every P rows → P (placeOfFirst rows)
+pub once-place : (P : ℕ → Type 0) (rows : List Row) → oneInteger rows ≡ true → Every (λ r. P (r .place)) rows → P (placeOfFirst rows)
 unfolding oneInteger placeOfFirst
 once-place P [] e h = absurd (clash (cc))
 once-place P (r ∷ []) e h = h r (here refl)
@@ -133,10 +133,10 @@ once-place P (r ∷ q ∷ rs) e h = absurd (clash (cc))
 
 module _ (rows : List Row) (placed : Placed rows) where
   pub mark-test : (id : ℕ) → ltb 1 (notedIn id 0 rows) ≡ oneInteger (named id rows)
-  mark-test id = ap (ltb 1) (noted-named id 0 rows) ∙ mark-once (named id rows) (every-named (λ p. 1 < p) id rows placed) .0
+  mark-test id = ap (ltb 1) (noted-named id 0 rows) ∙ mark-once (named id rows) (every-named (λ r. 1 < r .place) id rows placed) .0
 
   pub mark-place : (id : ℕ) → oneInteger (named id rows) ≡ true → notedIn id 0 rows ≡ placeOfFirst (named id rows)
-  mark-place id e = noted-named id 0 rows ∙ mark-once (named id rows) (every-named (λ p. 1 < p) id rows placed) .1 e
+  mark-place id e = noted-named id 0 rows ∙ mark-once (named id rows) (every-named (λ r. 1 < r .place) id rows placed) .1 e
 
   -- EACH ONCE: all marks are places, and then they are the meaning's
   pub marks-once : (sheet : List ℕ) → allFound (map (λ id. notedIn id 0 rows) sheet) ≡ eachOnce sheet rows
@@ -177,11 +177,11 @@ module _ (sheet : List ℕ) (eight : length sheet ≡ 8) (w : Result Walked) (ma
       found-places = marks-list ∙ marks-places members placed sheet once
 
       -- what holds of every member's place holds of the marks
-      pub found-every : (P : ℕ → Type 0) → Every P members → (j : ℕ) → j < 8 → P (getD marks j 0)
+      pub found-every : (P : ℕ → Type 0) → Every (λ r. P (r .place)) members → (j : ℕ) → j < 8 → P (getD marks j 0)
       found-every P every j i =
           let id : ℕ = getD sheet j 0 in
           let o = once-at sheet members once j (omega arith) in
-          subst P (sym (h .each j i ∙ mark-rows id w ∙ mark-place members placed id o)) (once-place P (named id members) o (every-named P id members every))
+          subst P (sym (h .each j i ∙ mark-rows id w ∙ mark-place members placed id o)) (once-place P (named id members) o (every-named (λ r. P (r .place)) id members every))
 
 -- ONE TURN over direct members
 pub mark-end : (m : Part) (p id mark : ℕ) → markFrom id mark (walk m p 2 0) ≡ mark

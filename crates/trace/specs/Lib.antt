@@ -7,3 +7,4 @@ pub mod Marks
 pub mod Locations
 pub mod Readings
 pub mod Activities
+pub mod Naming

@@ -1,9 +1,9 @@
 // The n-th Activity group, as a part of the message.
 use crate::location::trace_of;
 ghost use mathlib.Core.Path.{_≡_};
-ghost use Rattle.meaning.specs.Activity.{activityGroup, bytesIn};
+ghost use Rattle.meaning.specs.Activity.{activityGroup};
 ghost use Rattle.trace.specs.Composes.{termsOf};
-ghost use Rattle.trace.specs.Activities.{spanIn};
+ghost use Rattle.trace.specs.Activities.{spanIn, PartOf};
 
 // A part of the message: where it starts, and how many bytes it has.
 pub struct Span {
@@ -26,8 +26,7 @@ pub fn activity_span(msg: &[u8], len: usize, sheet: [u32; 8], n: usize) -> Span
 
 // THE N-TH ACTIVITY GROUP: the caller's own bytes.
 pub fn activity_group(msg: &[u8], len: usize, sheet: [u32; 8], n: usize) -> &[u8]
-    ensures { λ r. ⌜ now r ≡ bytesIn (now (msg .entry)) (activityGroup (termsOf sheet) (now (msg .entry)) len n) ⌝ }
-    ensures { λ r. ⌜ r .ptr .0 ≡ msg .entry .ptr .0 ⌝ }
+    ensures { λ r. ⌜ PartOf (msg .entry) (activityGroup (termsOf sheet) (now (msg .entry)) len n) r ⌝ }
 {
     let span = activity_span(msg, len, sheet, n);
     let from = span.place;

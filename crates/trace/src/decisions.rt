@@ -10,6 +10,7 @@ const REJECT_UNSUPPORTED: u32 = 0xFFFF0000;
 
 // Of a value in range exactly one of two bits is set, so that one bit tells.
 const MQROUTE_FORWARD_IF_SUPPORTED: u32 = 0x200;
+
 const MQROUTE_DELIVER_YES: u32 = 0x1000;
 
 // What is done with the message.

@@ -15,7 +15,9 @@ ghost use Rattle.trace.specs.Groups.{noGroupYet, noneYet, countRow, Coun
 
 // The type of a group, and the identifiers of the groups that a trace is made of.
 const MQCFT_GROUP: u32 = 20;
+
 const MQGACF_TRACE_ROUTE: u32 = 8003;
+
 const MQGACF_ACTIVITY: u32 = 8005;
 
 // A group: its place, the place of what is inside it, its length with all of that, and how many direct members it has.

@@ -17,6 +17,7 @@ const MQCFT_INTEGER: u32 = 3;
 // An attribute has a mark: the place of its integer, or one of these, which are no places of structures. Once a member with
 // its identifier is no integer, or comes second, it stays at fault.
 const ABSENT: usize = 0;
+
 const FAULT: usize = 1;
 
 // The mark of the attribute with the identifier, after one more direct member of the group.

@@ -1,10 +1,11 @@
 -- `activities::activity_group` meets its contract: the part is the span's, and it lies in the message's memory.
 -- Assumes nothing.
-use mathlib.Core.Path.{refl}
+use mathlib.Core.Path.{refl, ap}
 use Prim.Native.Nat.{_+_, _≤_}
 use native.Mathlib.Omega.{arith}
 use lib.ListN.{length}
 use denote.Ref.{now}
+use Rattle.meaning.specs.Activity.{Span}
 use Rattle.trace.specs.Composes.{termsOf}
 use Rattle.trace.proofs.Entries.{activity-in, span-end, span-bytes}
 use borrow.Author.Needs.{needs}
@@ -24,7 +25,9 @@ part-result-end : tie.Need-part-result-end
 part-result-end c = ends (c .before)
 
 returns : tie.Need-returns
-returns c = (span-bytes (now (c .before .before .before .before .args .msg)) _ _ (c .before .before .activity-span .ensures), refl)
+returns c =
+    let e = c .before .before .activity-span .ensures in
+    record { memory = refl; start = ap (λ (x : Span). x .place + c .before .before .before .before .args .msg .ptr .1) e; bytes = span-bytes (now (c .before .before .before .before .args .msg)) _ _ e }
 
 pub activity-group-spec : {M : Type 1} → statement M
 activity-group-spec =

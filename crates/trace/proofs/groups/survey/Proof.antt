@@ -55,10 +55,11 @@ loop-again c =
     let f = c .count-row2 .ensures in
     let due = c .before .before .before .before .before .before .loop-test .taken in
     let a : c .before .count-row .result .count ≤ l .loop .routes .count + 1 = rw e (count-le _ _ _ _ _) in
-    let b : c .count-row2 .result .count ≤ l .loop .activities .count + 1 = rw f (count-le _ _ _ _ _) in
-    (l .loop .inv .0 ∙ survey-next _ _ _ _ _ _ due _ _ o ∙ rw (← e, ← f) refl,
-     omega (arith, due),
-     omega (arith, due))
+    let b : c .count-row2 .result .count ≤ l .loop .activities .count + 1 = rw f (count-le _ _ _ _ _) in (
+      l .loop .inv .0 ∙ survey-next _ _ _ _ _ _ due _ _ o ∙ rw (← e, ← f) refl,
+      omega (arith, due),
+      omega (arith, due),
+    )
 
 returns-2 : tie.Need-returns-2 Inv-loop μ-loop
 returns-2 c =

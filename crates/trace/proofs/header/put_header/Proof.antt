@@ -27,11 +27,12 @@ loop-holds c = (omega arith, refl, sym (splice-none _ 0))
 loop-again : tie.Need-loop-again Inv-loop μ-loop
 loop-again c =
     let l = c .before .before .before .before .before .before in
-    let a = l .before .before .args in
-    (omega arith,
-     c .before .before .put-number .kept .0 ∙ l .loop .inv .1,
-     c .before .before .put-number .ensures
-     ∙ rw (l .loop .inv .2, c .before .before .before .field .ensures) (write-next (a .buf .now) (fieldsOf (a .kind)) (l .loop .i) (omega (arith, nine (a .kind))) (omega (arith, nine (a .kind)))))
+    let a = l .before .before .args in (
+      omega arith,
+      c .before .before .put-number .kept .0 ∙ l .loop .inv .1,
+      c .before .before .put-number .ensures
+          ∙ rw (l .loop .inv .2, c .before .before .before .field .ensures) (write-next (a .buf .now) (fieldsOf (a .kind)) (l .loop .i) (omega (arith, nine (a .kind))) (omega (arith, nine (a .kind)))),
+    )
 
 returns : tie.Need-returns Inv-loop μ-loop
 returns c =

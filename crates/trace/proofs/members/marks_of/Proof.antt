@@ -39,9 +39,10 @@ loop-again : tie.Need-loop-again Inv-loop μ-loop
 loop-again c =
     let l = c .before .before .before .before .before .before in
     let a = l .before .before .args in
-    let o = over _ _ _ _ _ (is-step (c .before .before .before .before .pass .ensures) (c .before .before .stepped .given .1)) in
-    (c .note-all .ensures .eight,
-     λ j h. l .loop .inv .1 j h ∙ mark-next _ _ _ (c .before .before .before .before .before .loop-test .taken) _ _ o (getD (a .sheet) j 0) (getD (l .loop .marks) j 0) ∙ rw (← c .note-all .ensures .each j h) refl)
+    let o = over _ _ _ _ _ (is-step (c .before .before .before .before .pass .ensures) (c .before .before .stepped .given .1)) in (
+      c .note-all .ensures .eight,
+      λ j h. l .loop .inv .1 j h ∙ mark-next _ _ _ (c .before .before .before .before .before .loop-test .taken) _ _ o (getD (a .sheet) j 0) (getD (l .loop .marks) j 0) ∙ rw (← c .note-all .ensures .each j h) refl,
+    )
 
 returns-2 : tie.Need-returns-2 Inv-loop μ-loop
 returns-2 c =
