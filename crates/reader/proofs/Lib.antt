@@ -1,0 +1,3 @@
+mod Held
+pub mod Tops
+pub mod Samples

@@ -1,0 +1,51 @@
+-- The n-th structure of the top level, by what the code finds.
+-- Assumes nothing.
+use mathlib.Core.Path.{_≡_, refl, ap, _∙_}
+use mathlib.Core.Bool.{Bool, true, false}
+use mathlib.Core.List.{List}
+use Prim.Native.Nat.{ℕ, _≤_, _<_}
+use native.Mathlib.Omega.{arith}
+use lib.ListN.{length}
+use borrow.Author.Tests.{le-leb, lt-leb}
+use Rattle.meaning.specs.Names.{badLength}
+use Rattle.meaning.specs.Answer.{Result, accepted, refused, andThen}
+use Rattle.meaning.specs.Walk.{Walked, walk}
+use Rattle.meaning.specs.Message.{Stepped, partOf, lengthOk, step}
+use Rattle.meaning.proofs.Fuel.{walk-zero}
+use Rattle.pcf.specs.Tallies.{Tally, tallied}
+use Rattle.reader.specs.Reading.{start, standing, nthTop}
+
+module _ (msg : List ℕ) where
+  -- what stands at the place where a walk over the top level ended
+  abbrev pub from : Result ℕ → Result Stepped
+  from e = andThen e (λ q. standing msg (record { place = q; depth = 1 }))
+
+  counted : (t : List ℕ) (w : Result Walked) → from (tallied t w .ended) ≡ andThen w (λ x. standing msg (record { place = x .next; depth = 1 }))
+  counted t (accepted x) = refl
+  counted t (refused k p) = refl
+
+  module _ (n : ℕ) where
+    pub too-short : length msg < 36 → refused badLength 0 ≡ nthTop msg n
+    unfolding nthTop lengthOk
+    too-short h = rw (le-leb (length msg) (length msg) (omega arith), le-leb (length msg) 65536 (omega arith), lt-leb 36 (length msg) h) refl
+
+    pub too-long : 65536 < length msg → refused badLength 0 ≡ nthTop msg n
+    unfolding nthTop lengthOk
+    too-long h = rw (le-leb (length msg) (length msg) (omega arith), lt-leb (length msg) 65536 h) refl
+
+    -- then the walk over the n before it decides
+    pub by-walk : 36 ≤ length msg → length msg ≤ 65536 → (t counts : List ℕ) (e : Result ℕ)
+        → record { ended = e; counts = counts } ≡ tallied t (walk (partOf msg (length msg)) 36 1 n) → from e ≡ nthTop msg n
+    unfolding nthTop lengthOk
+    by-walk least most t counts e h =
+        rw (le-leb (length msg) (length msg) (omega arith), le-leb (length msg) 65536 most, le-leb 36 (length msg) least)
+        (ap (λ (x : Tally). from (x .ended)) h ∙ counted t (walk (partOf msg (length msg)) 36 1 n))
+
+-- none before it: the 0-th is the one where a reader stands that was just opened
+pub nth-first : (msg : List ℕ) → nthTop msg 0 ≡ standing msg start
+unfolding nthTop step
+nth-first msg = go (lengthOk msg (length msg)) refl
+  where
+    go : (b : Bool) → lengthOk msg (length msg) ≡ b → nthTop msg 0 ≡ standing msg start
+    go true e = rw (e, walk-zero (partOf msg (length msg)) 36 1) refl
+    go false e = rw e refl

@@ -1,0 +1,23 @@
+-- `reader::nth_top` meets its contract.
+-- Assumes nothing.
+use mathlib.Core.Path.{_∙_}
+use native.Mathlib.Omega.{arith}
+use borrow.Author.Needs.{needs}
+use Rattle.pcf.proofs.Answers.{ended-as}
+use Rattle.pcf.proofs.Counting.{zeros-low}
+use Rattle.reader.proofs.Tops.{too-short, too-long, by-walk}
+use Rattle.reader.proofs.nth_top.Statement.{statement}
+use Rattle.reader.proofs.nth_top.Tie as tie
+
+pub nth-top-spec : {M : Type 1} → statement M
+nth-top-spec =
+    tie.close
+    (tie.spec
+    (λ c. too-short _ _ (omega arith))
+    (λ c. too-long _ _ (omega arith))
+    (λ c κs. record { there = omega arith; most = omega arith; low = zeros-low 27 36 })
+    (λ c. search needs)
+    (λ c κs. search needs)
+    (λ c. search needs)
+    (λ c. c .look .ensures ∙ by-walk _ _ (omega arith) (omega arith) _ _ _ (ended-as (c .before .before .before .before .siblings .ensures) (c .before .before .ended .given .1)))
+    (λ c. by-walk _ _ (omega arith) (omega arith) _ _ _ (ended-as (c .before .before .before .siblings .ensures) (c .before .ended2 .given .1))))
