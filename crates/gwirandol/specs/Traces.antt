@@ -1,11 +1,12 @@
 -- What the functions for traces answer, and what they leave.
 use Prim.Native.Nat.{ℕ}
 use mathlib.Core.Path.{_≡_}
+use mathlib.Core.Bool.{Bool, true, false}
 use mathlib.Core.List.{List, [], _∷_}
 use Rattle.meaning.specs.Answer.{Result, accepted, refused, andThen}
 use Rattle.meaning.specs.Trace.{Terms, read}
 use Rattle.meaning.specs.Decision.{Decision as Meant, forward, putLocally, withhold}
-use Rattle.meaning.specs.Activity.{Span, activityGroup}
+use Rattle.meaning.specs.Activity.{activityGroup, Name, inMessage, substitute}
 use Rattle.trace.specs.declared.decisions.Decision.{Decision}
 use Rattle.trace.specs.declared.decisions.Decision.the-variants.{Forward, PutLocally, Withhold}
 use Rattle.meaning.specs.Compose.{compose}
@@ -50,3 +51,16 @@ decisionOf Withhold = 3
 -- THE N-TH ACTIVITY GROUP: place and length
 abbrev pub Spans : List ℕ → ℕ → List ℕ → ℕ → List ℕ → Type 0
 Spans buf len sheet n part = part ≡ activityGroup (terms sheet) buf len n .place ∷ activityGroup (terms sheet) buf len n .length ∷ []
+
+-- A NAMED STRING: whether the message has it, and its place and length; else the part stays as it was
+abbrev pub isIn : Name → Bool
+isIn (inMessage s) = true
+isIn substitute = false
+
+abbrev pub partIn : List ℕ → Name → List ℕ
+partIn before (inMessage s) = s .place ∷ s .length ∷ []
+partIn before substitute = before
+
+pub record Names (name : Name) (before : List ℕ) (r : Bool) (after : List ℕ) : Type 0 where
+  pub answer : r ≡ isIn name
+  pub part : after ≡ partIn before name

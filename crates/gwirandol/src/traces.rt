@@ -5,9 +5,11 @@ use trace::Answer;
 use trace::Composed;
 use trace::Decision;
 use trace::Judged;
+use trace::Named;
 ghost use mathlib.Core.Path.{_≡_};
 ghost use Rattle.gwirandol.specs.Codes.{code, Fits};
-ghost use Rattle.gwirandol.specs.Traces.{Composes, Reads, decisionOf, decided, Spans, terms};
+ghost use Rattle.gwirandol.specs.Traces.{Composes, Reads, decisionOf, decided, Spans, Names, terms};
+ghost use Rattle.meaning.specs.Activity.{nameOf};
 ghost use Rattle.meaning.specs.Decision.{forwarding, arrival};
 ghost use Rattle.trace.specs.Composes.{composedOf};
 ghost use Rattle.trace.specs.Decisions.{judgedOf};
@@ -99,4 +101,27 @@ pub extern "C" fn gw_activity_group(buffer: &[u8], length: usize, sheet: &[u32; 
     let s = *sheet;
     let span = trace::activity_span(buffer, length, s, n);
     *part = [span.place as u64, span.length as u64];
+}
+
+// A NAMED STRING: whether the message has it, and its place and length; else the part stays as it was.
+#[no_mangle]
+pub extern "C" fn gw_named_string(
+    buffer: &[u8],
+    length: usize,
+    sheet: &[u32; 8],
+    n: usize,
+    identifier: u32,
+    part: &mut [u64; 2],
+) -> bool
+    ensures { λ r. ⌜ Names (nameOf (terms (now (sheet .entry))) (now (buffer .entry)) length n identifier) (now (part .entry)) r (now (part .exit)) ⌝ }
+{
+    let s = *sheet;
+    let found = trace::name_span(buffer, length, s, n, identifier);
+    match found {
+        Named::Substitute => false,
+        Named::InMessage(span) => {
+            *part = [span.place as u64, span.length as u64];
+            true
+        }
+    }
 }

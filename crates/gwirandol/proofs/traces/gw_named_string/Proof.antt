@@ -1,0 +1,15 @@
+-- `traces::gw_named_string` meets its contract.
+use borrow.Author.Needs.{needs}
+use Rattle.gwirandol.proofs.Spans.{is-substitute, is-named}
+use Rattle.gwirandol.proofs.traces.gw_named_string.Statement.{statement}
+use Rattle.gwirandol.proofs.traces.gw_named_string.Tie as tie
+
+pub gw-named-string-spec : {M : Type 1} → statement M
+gw-named-string-spec =
+    tie.close
+    (tie.spec
+    (λ c κs. search needs)
+    (λ c. search needs)
+    (λ c. search needs)
+    (λ c. is-substitute _ _ (c .before .before .name-span .ensures) _ (c .enum-told .given .1))
+    (λ c. is-named _ _ (c .before .before .before .before .name-span .ensures) _ _ (c .before .before .found .given .1)))
