@@ -1,13 +1,15 @@
 /* Gwirandol: IBM MQ trace-route messages (PCF), checked, listed, composed, read and changed by proved code.
  *
  * Link with libgwirandol.a. No function allocates, keeps state, or reads outside what it is lent, and every function
- * answers for every input: any bytes, any length up to SIZE_MAX, any place, depth, level and sheet. A null pointer may be
- * lent only with the size 0, and what is lent for writing must not overlap anything else that is lent.
+ * answers for every input: any bytes, any length up to SIZE_MAX, any place, depth, level and sheet. A pointer that comes with
+ * a size may be null only if the size is 0; every other pointer must be there. What is lent for writing must not overlap
+ * anything else that is lent.
  *
  * A message is the first `length` bytes of a lent buffer of `size` bytes.
  *
  * A number answered is a gw_answer: gw_number() of it is 0, or the number of the refusal; gw_value() is what the function
- * gives, or the refusal's place in the message. A refusal changes no byte of anything lent. */
+ * gives, or the refusal's place in the message. A refusal changes no byte of anything lent, but for the two results that
+ * have a value of their own for it: the counts of gw_tally, all 0, and the part of gw_activity_group, 0 and 0. */
 #ifndef GWIRANDOL_H
 #define GWIRANDOL_H
 

@@ -1,0 +1,45 @@
+//! What the numbers mean.
+
+use crate::measure::{PASSES, ROUNDS};
+
+pub fn print() {
+    println!("Notes");
+    println!();
+    println!(
+        "- Nanoseconds for one call, the best of {} rounds of 1 to 2 ms. The rounds alternate \
+         between library, Rust and C, after a warm-up, in one run of {PASSES} passes over all rows.",
+        PASSES * ROUNDS
+    );
+    println!(
+        "- Library: the proved code, called through its C header. Rust: the independent decoder's \
+         own function, as cargo's release profile compiles it. C: a check written by hand, \
+         compiled with -O3."
+    );
+    println!(
+        "- check, tally: both sides walk the message once. The library's tally writes 27 lent \
+         counts, the decoder's returns them."
+    );
+    println!(
+        "- list: the library may write the lent text only once it knows that the message is \
+         sound. The decoder writes while it walks, into a String that it allocates and that is \
+         freed again, both within the time."
+    );
+    println!(
+        "- flat: a TraceRoute group, then integers of 16 bytes and one string to the end. Groups \
+         to depth 8: Activity groups of 176 bytes, each with seven more groups one in another."
+    );
+    println!(
+        "- read and what builds on it (forward, events, names) walk the whole message on both \
+         sides. The library writes lent values, the decoder returns them."
+    );
+    println!(
+        "- activity: lends a group of 300 bytes, which is checked. Unrecorded, it raises a \
+         counter only; appended and reported, it also writes 300 bytes behind the message and a \
+         report of 336. The header's count is put back before each call, 4 bytes on both sides; \
+         the counters go on rising."
+    );
+    println!(
+        "- name: a direct string of the first or last Activity group: 28 bytes, 16 of them trailing \
+         blanks; in the deep groups 4 bytes without any."
+    );
+}

@@ -1,0 +1,7 @@
+//! Links the proved library.
+
+mod link;
+
+fn main() {
+    link::library("../../target/staticlib");
+}

@@ -1,0 +1,112 @@
+//! Compose, read, decisions, parts and events.
+
+use super::answer::Answer;
+use super::lend::{start, start_mut};
+use super::raw::{self, Done, Part};
+
+/// A sheet, or the eight values.
+pub type Eight = [u32; 8];
+
+/// An activity's arguments.
+#[derive(Clone, Copy, Debug)]
+pub struct Activity<'a> {
+    pub level: u32,
+    pub group: &'a [u8],
+    pub reports_asked: bool,
+    pub activity_recording: bool,
+    pub trace_route_messaging: bool,
+}
+
+/// 180, or 17, 8, 12.
+pub fn compose(sheet: &Eight, values: &Eight, buffer: &mut [u8]) -> Answer {
+    let (sheet, values, size) = (sheet.as_ptr(), values.as_ptr(), buffer.len());
+    // SAFETY: both arrays have eight numbers and are only read; pointer and
+    // size are one slice, and as `&mut` it lies apart.
+    Answer(unsafe { raw::gw_compose(sheet, values, start_mut(buffer), size) })
+}
+
+/// 0 and the eight values, or 17, 1 to 8.
+pub fn read(buffer: &[u8], length: usize, sheet: &Eight, values: &mut Eight) -> Answer {
+    let (from, size, sheet) = (start(buffer), buffer.len(), sheet.as_ptr());
+    // SAFETY: pointer and size are one slice, which is only read, as is the
+    // sheet of eight; the eight values as `&mut` lie apart.
+    Answer(unsafe { raw::gw_read(from, size, length, sheet, values.as_mut_ptr()) })
+}
+
+/// Forward, or a refusal.
+pub fn forward(buffer: &[u8], length: usize, sheet: &Eight, supporting: bool) -> Answer {
+    let (from, size, sheet) = (start(buffer), buffer.len(), sheet.as_ptr());
+    // SAFETY: pointer and size are one slice; it and the sheet are only read.
+    Answer(unsafe { raw::gw_forward(from, size, length, sheet, supporting) })
+}
+
+/// Put or withhold, or a refusal.
+pub fn arrive(buffer: &[u8], length: usize, sheet: &Eight) -> Answer {
+    let (from, size) = (start(buffer), buffer.len());
+    // SAFETY: pointer and size are one slice; it and the sheet are only read.
+    Answer(unsafe { raw::gw_arrive(from, size, length, sheet.as_ptr()) })
+}
+
+/// Writes where the n-th Activity group is.
+pub fn activity_group(buffer: &[u8], length: usize, sheet: &Eight, n: usize, part: &mut Part) {
+    let (from, size, sheet) = (start(buffer), buffer.len(), sheet.as_ptr());
+    // SAFETY: pointer and size are one slice; it and the sheet are only read.
+    // The part is laid out as in C, and as `&mut` it lies apart.
+    unsafe { raw::gw_activity_group(from, size, length, sheet, n, part) }
+}
+
+/// Whether there is such a string; if so, writes where it is.
+pub fn named_string(
+    buffer: &[u8],
+    length: usize,
+    sheet: &Eight,
+    n: usize,
+    identifier: u32,
+    part: &mut Part,
+) -> bool {
+    let (from, size, sheet) = (start(buffer), buffer.len(), sheet.as_ptr());
+    // SAFETY: pointer and size are one slice; it and the sheet are only read.
+    // The part is laid out as in C, and as `&mut` it lies apart.
+    let found = unsafe { raw::gw_named_string(from, size, length, sheet, n, identifier, part) };
+    assert!(found <= 1, "a bool of C that is {found}");
+    found == 1
+}
+
+/// The message's length, or a refusal.
+pub fn discontinuity(buffer: &mut [u8], length: usize, sheet: &Eight, done: &mut Done) -> Answer {
+    let (size, sheet) = (buffer.len(), sheet.as_ptr());
+    // SAFETY: pointer and size are one slice; the sheet is only read. Slice and
+    // `done`, which is laid out as in C, are `&mut` and so lie apart.
+    Answer(unsafe { raw::gw_discontinuity(start_mut(buffer), size, length, sheet, done) })
+}
+
+/// The message's new length, or a refusal.
+pub fn activity(
+    buffer: &mut [u8],
+    length: usize,
+    sheet: &Eight,
+    event: &Activity,
+    report: &mut [u8],
+    done: &mut Done,
+) -> Answer {
+    let (size, report_size) = (buffer.len(), report.len());
+    // SAFETY: each pointer and its size are one slice; sheet and group are only
+    // read. Message, report and `done` are `&mut` and so lie apart.
+    Answer(unsafe {
+        raw::gw_activity(
+            start_mut(buffer),
+            size,
+            length,
+            sheet.as_ptr(),
+            event.level,
+            start(event.group),
+            event.group.len(),
+            event.reports_asked,
+            event.activity_recording,
+            event.trace_route_messaging,
+            start_mut(report),
+            report_size,
+            done,
+        )
+    })
+}

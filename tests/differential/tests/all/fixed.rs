@@ -1,0 +1,130 @@
+//! Fixed cases of the papers.
+
+use crate::spread::Spread;
+use crate::structures::{compare, compare_step};
+use crate::text::Text;
+use decoder::generate::{assemble, Piece};
+use decoder::{Sheet, Values};
+use differential::ffi::{self, Answer};
+
+/// Document 01's listing of a composed message, under its made-up sheet.
+pub const COMPOSED: &str = "pcf 10 75 1 180\n\
+    1 36 20 8003 16\n\
+    2 52 3 1201 16\n\
+    2 68 3 1202 16\n\
+    2 84 3 1203 16\n\
+    2 100 3 1204 16\n\
+    2 116 3 1205 16\n\
+    2 132 3 1206 16\n\
+    2 148 3 1207 16\n\
+    2 164 3 1208 16\n\
+    end 9\n";
+
+pub const MADE_UP: [u32; 8] = [1201, 1202, 1203, 1204, 1205, 1206, 1207, 1208];
+
+/// Document 004's event, read from its dump by eye.
+const EVENT: &str = "pcf 7 99 2 300\n\
+    1 36 20 8001 16\n\
+    2 52 4 3045 32\n\
+    2 84 3 1011 16\n\
+    2 100 4 3047 68\n\
+    2 168 3 1021 16\n\
+    1 184 20 8002 16\n\
+    2 200 4 3067 24\n\
+    2 224 3 1016 16\n\
+    2 240 6 3065 36\n\
+    2 276 5 1116 24\n\
+    end 10\n";
+
+const FIELDS: [u32; 8] = [7, 36, 3, 99, 1, 1, 0, 0];
+
+/// The listing that the papers give, and everything else as the decoder says,
+/// for the message, all its cuts, and all places in it.
+fn thorough(message: &[u8], listing: &str) {
+    let (mut text, mut spread) = (Text::new(), Spread::default());
+    let answer = text.list(message, message.len(), listing.as_bytes());
+    assert_eq!(answer, Answer::given(listing.len() as u64));
+    for length in 0..=message.len() + 1 {
+        compare(message, length, &mut text, &mut spread);
+    }
+    for place in 0..=message.len() + 1 {
+        for depth in [0, 1, 8, 9, u32::MAX] {
+            compare_step(message, message.len(), place, depth);
+        }
+    }
+}
+
+#[test]
+fn document_01s_listing() {
+    let values = Values::from_array([2, 0, 0, 0, 0, 0x10003, 0x100, 0x2000]);
+    let mut message = [0; 180];
+    let composed = decoder::compose(&Sheet::new(MADE_UP), &values, &mut message);
+    assert_eq!(composed, Ok(180));
+    thorough(&message, COMPOSED);
+}
+
+#[test]
+fn document_004s_event() {
+    let message = decoder::sample::event_004();
+    assert_eq!(ffi::check(&message, 300), Answer::given(10));
+    thorough(&message, EVENT);
+}
+
+/// The check's answer, which the decoder has to share.
+fn checked(message: &[u8]) -> Answer {
+    compare(
+        message,
+        message.len(),
+        &mut Text::new(),
+        &mut Spread::default(),
+    );
+    ffi::check(message, message.len())
+}
+
+#[test]
+fn short_messages() {
+    assert_eq!(checked(&[]), Answer::refused(1, 0));
+    assert_eq!(checked(&[0; 35]), Answer::refused(1, 0));
+    assert_eq!(checked(&assemble(FIELDS, &[])), Answer::given(0));
+}
+
+#[test]
+fn a_one_byte_string() {
+    // Data and padding; StrucLength says what the first number does.
+    let string = |said: u32, behind: usize| {
+        let mut piece = Piece::new(4, 3001, &[0, 1], b"a", &vec![0; behind]);
+        piece.bytes[4..8].copy_from_slice(&said.to_be_bytes());
+        assemble(FIELDS, &[piece])
+    };
+    assert_eq!(checked(&string(24, 3)), Answer::given(1));
+    assert_eq!(checked(&string(28, 7)), Answer::given(1));
+    assert_eq!(checked(&string(20, 0)), Answer::refused(3, 36));
+    assert_eq!(checked(&string(25, 4)), Answer::refused(3, 36));
+}
+
+#[test]
+fn groups_to_depth_8() {
+    let nested = |depth: usize| {
+        let inner = Piece::group(1, &[Piece::integer(2, 3)]);
+        let piece = (1..depth).fold(inner, |inner, _| Piece::group(1, &[inner]));
+        assemble(FIELDS, &[piece])
+    };
+    assert_eq!(checked(&nested(8)), Answer::given(9));
+    assert_eq!(checked(&nested(9)), Answer::refused(4, 36 + 8 * 16));
+}
+
+#[test]
+fn counts_that_would_wrap_in_32_bits() {
+    let list = |count, length| assemble(FIELDS, &[Piece::new(6, 1, &[0, count, length], &[], &[])]);
+    assert_eq!(checked(&list(0, i32::MAX as u32)), Answer::given(1));
+    for (count, length) in [(65_536, 65_536), (0, 1 << 31), (1 << 31, 0), (1 << 30, 4)] {
+        assert_eq!(checked(&list(count, length)), Answer::refused(3, 36));
+    }
+    let integers = Piece::new(5, 1, &[1 << 30], &[], &[]);
+    assert_eq!(
+        checked(&assemble(FIELDS, &[integers])),
+        Answer::refused(3, 36)
+    );
+    let longs = Piece::new(25, 1, &[1 << 29], &[], &[]);
+    assert_eq!(checked(&assemble(FIELDS, &[longs])), Answer::refused(3, 36));
+}

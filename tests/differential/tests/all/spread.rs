@@ -1,0 +1,50 @@
+//! How often each entry gave each answer: a comparison in which some answer
+//! never came would be blind there.
+
+use differential::ffi::Answer;
+use std::collections::BTreeMap;
+use std::fmt;
+
+/// Counts for each entry and refusal number; 0 stands for acceptance.
+#[derive(Default)]
+pub struct Spread {
+    counts: BTreeMap<&'static str, BTreeMap<u32, u64>>,
+}
+
+impl Spread {
+    pub fn note(&mut self, entry: &'static str, number: u32) {
+        let counts = self.counts.entry(entry).or_default();
+        *counts.entry(number).or_default() += 1;
+    }
+
+    pub fn answer(&mut self, entry: &'static str, answer: Answer) {
+        self.note(entry, answer.number());
+    }
+
+    /// No other numbers came than these, and in a long run each of them.
+    pub fn demand(&self, entry: &str, numbers: &[u32], all: bool) {
+        let none = BTreeMap::new();
+        let counts = self.counts.get(entry).unwrap_or(&none);
+        for number in counts.keys() {
+            assert!(numbers.contains(number), "{entry} gave {number}");
+        }
+        for number in numbers {
+            let met = counts.contains_key(number);
+            assert!(met || !all, "{entry} never gave {number}");
+        }
+    }
+}
+
+impl fmt::Display for Spread {
+    fn fmt(&self, to: &mut fmt::Formatter) -> fmt::Result {
+        for (entry, counts) in &self.counts {
+            let calls: u64 = counts.values().sum();
+            write!(to, "  {entry}: {calls} calls;")?;
+            for (number, count) in counts {
+                write!(to, " {number}: {count}")?;
+            }
+            writeln!(to)?;
+        }
+        Ok(())
+    }
+}
