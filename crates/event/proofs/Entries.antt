@@ -71,14 +71,14 @@ module _ (tm : Terms) (st : State) (e : Event) (t : Trace) (r : readTrace tm (st
 
       pub writable : Writable (st .buf) (st .len) (valuePlace (value (t .places) (plan .counter))) (value (t .values) (plan .counter)) (plan .appends) (groupOf e)
       writable =
-          let h = s .lies .in-least in
+          let h = s .lies .least in
           let b = a .below in
           record {
             header = h;
-            message = s .lies .in-buffer;
+            message = s .lies .there;
             inside = omega (arith, lies (tm .sheet) (partOf (st .buf) (st .len)) t (s .sheet-ok) (s .message) (plan .counter) (omega (arith, k .hi)) .inside);
             value-fits = omega arith;
-            count-fits = omega (arith, count-le (tm .sheet) (partOf (st .buf) (st .len)) t (s .sheet-ok) (s .message), s .lies .in-most, num-part (st .buf) (st .len) 32 (omega arith));
+            count-fits = omega (arith, count-le (tm .sheet) (partOf (st .buf) (st .len)) t (s .sheet-ok) (s .message), s .lies .most, num-part (st .buf) (st .len) 32 (omega arith));
             group-fits = λ q. (a .fits q) .0;
           }
 
@@ -104,12 +104,12 @@ module _ (buf : List ℕ) (len : ℕ) (places values : List ℕ) (plan : Plan) (
   group-most = rw (ready .lent) at (sound-most (ready .happened) (ready .sound-group))
 
   pub length-most : len ≤ 65536
-  length-most = in-order .lies .in-most
+  length-most = in-order .lies .most
 
   -- where the counter's Value lies
   pub place-most : (c : ℕ) → c ≤ 3 → value places c + 16 ≤ 65536
   place-most c h =
-      let m = in-order .lies .in-most in
+      let m = in-order .lies .most in
       omega (arith, lies (ready .terms .sheet) (partOf buf len) trace (in-order .sheet-ok) (in-order .message) c (omega arith) .inside)
 
   module _ (x : Done) (d : decide values plan (length g) len (length buf) (length report) ≡ done x) where

@@ -62,7 +62,7 @@ event-brief sheet st e = by (readTrace (terms sheet) (st .buf) (st .len)) refl
     go t h false = omega arith
 
     by : (x : Result Trace) → readTrace (terms sheet) (st .buf) (st .len) ≡ x → Brief (onRead st e x .answer)
-    by (accepted t) h = go t (sound (terms sheet) (st .buf) (st .len) t h .lies .in-most) (soundEvent e)
+    by (accepted t) h = go t (sound (terms sheet) (st .buf) (st .len) t h .lies .most) (soundEvent e)
     by (refused n p) h = read-refused (terms sheet) (st .buf) (st .len) n p h .place
 
 -- a flag is a bit

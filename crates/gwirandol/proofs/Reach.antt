@@ -23,7 +23,8 @@ use Rattle.meaning.specs.Structure.{Row}
 use Rattle.meaning.specs.Message.{partOf, scan, check}
 use Rattle.meaning.specs.Listing.{listingText}
 use Rattle.meaning.proofs.Tallies.{rows-room}
-use Rattle.meaning.proofs.Outcomes.{Accepted, scan-accepted, scan-refused, read-refused}
+use Rattle.meaning.proofs.Sound.{sound-scan}
+use Rattle.meaning.proofs.Outcomes.{scan-refused, read-refused}
 use Rattle.meaning.proofs.Lines.{listing-most}
 use Rattle.gwirandol.specs.Codes.{code, Fits}
 use Rattle.gwirandol.specs.Traces.{decided, decisionOf}
@@ -49,7 +50,7 @@ number-below NotForwarded = omega arith
 number-below BadSheet = omega arith
 
 check-of : (buf : List ℕ) (len : ℕ) (r : Result (List Row)) → scan buf len ≡ r → Fits (andThen r (λ rows. accepted (length rows)))
-check-of buf len (accepted rows) e = let a = scan-accepted buf len rows e in omega (arith, rows-room (a .walks), a .size .most)
+check-of buf len (accepted rows) e = let a = sound-scan buf len rows e in omega (arith, rows-room (a .1 .tree), a .0 .most)
 check-of buf len (refused n p) e = omega (arith, scan-refused buf len n p e .place)
 
 pub check-fits : (buf : List ℕ) (len : ℕ) → Fits (check buf len)
@@ -59,7 +60,7 @@ check-fits buf len = check-of buf len (scan buf len) refl
 list-of : (buf : List ℕ) (len : ℕ) (r : Result (List Row)) → scan buf len ≡ r
     → Fits (andThen r (λ rows. accepted (length (listingText (partOf buf len) len rows))))
 list-of buf len (accepted rows) e =
-    let a = scan-accepted buf len rows e in omega (arith, listing-most (partOf buf len) len _ rows len (a .walks) (a .size .most))
+    let a = sound-scan buf len rows e in omega (arith, listing-most (partOf buf len) len _ rows len (a .1 .tree) (a .0 .most))
 list-of buf len (refused n p) e = omega (arith, scan-refused buf len n p e .place)
 
 pub list-fits : (buf : List ℕ) (len : ℕ) → Fits (andThen (scan buf len) (λ rows. accepted (length (listingText (partOf buf len) len rows))))

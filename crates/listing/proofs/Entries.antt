@@ -12,7 +12,9 @@ use Rattle.meaning.specs.Structure.{Row}
 use Rattle.meaning.specs.Message.{partOf, rowsOf, scan, check}
 use Rattle.meaning.specs.Listing.{listingText, refusalLine, printed, listing}
 use Rattle.meaning.proofs.Tests.{clash}
-use Rattle.meaning.proofs.Outcomes.{Accepted, scan-accepted, scan-refused, check-accepted, check-refused}
+use Rattle.meaning.proofs.Scans.{Sized}
+use Rattle.meaning.proofs.Sound.{SoundRows, sound-scan, rows-of}
+use Rattle.meaning.proofs.Outcomes.{scan-refused, check-accepted, check-refused}
 use Rattle.text.specs.Wrote.{Wrote}
 use Rattle.answers.specs.Refusals.{numberOf, placeOf, refusal}
 use Rattle.answers.specs.declared.Refusal.{Refusal}
@@ -34,31 +36,31 @@ module _ (buf : List ℕ) (len n : ℕ) (e : check buf len ≡ accepted n) where
   unfolding its-rows
   its-scan = (check-accepted buf len n e) .1
 
-  its : Accepted buf len its-rows
-  its = scan-accepted buf len its-rows its-scan
+  its : Sized buf len × SoundRows (partOf buf len) its-rows
+  its = sound-scan buf len its-rows its-scan
 
   pub inside : len ≤ length buf
-  inside = its .size .there
+  inside = its .0 .there
 
   as-whole : rowsOf (whole (take len buf)) ≡ accepted its-rows
-  as-whole = ap rowsOf (sym (part-whole buf len (its .size .there))) ∙ its .sound
+  as-whole = ap rowsOf (sym (part-whole buf len (its .0 .there))) ∙ rows-of (partOf buf len) its-rows (its .1)
 
   pub list-checked : Checked (take len buf) n
   unfolding its-rows
   list-checked =
-      let l : length (take len buf) ≡ len = length-take-le len buf (its .size .there) in
+      let l : length (take len buf) ≡ len = length-take-le len buf (its .0 .there) in
       record {
         rows = its-rows;
         sound = as-whole;
-        header = omega (arith, its .size .least);
-        small = omega (arith, its .size .most);
+        header = omega (arith, its .0 .least);
+        small = omega (arith, its .0 .most);
         counted = sym ((check-accepted buf len n e) .2);
       }
 
   same-text : textOf (take len buf) (rowsOf (whole (take len buf))) ≡ listingText (partOf buf len) len its-rows
   same-text =
       ap (textOf (take len buf)) as-whole
-      ∙ ap (λ (x : Part). listingText x (x .end) its-rows) (sym (part-whole buf len (its .size .there)))
+      ∙ ap (λ (x : Part). listingText x (x .end) its-rows) (sym (part-whole buf len (its .0 .there)))
 
   pub list-sound : (out after : List ℕ) (r : ℕ) → Wrote out 0 (textOf (take len buf) (rowsOf (whole (take len buf)))) after r → Lists buf len out after (Text r)
   list-sound out after r w =

@@ -1,5 +1,4 @@
 -- The header line, the rows and the last line of a message that was checked, over plain lists and numbers.
--- Assumes nothing.
 use mathlib.Core.Path.{_≡_, refl, sym, ap, _∙_}
 use mathlib.Core.List.{List, _++_}
 use Prim.Native.Nat.{ℕ, _+_, _≤_}
@@ -11,7 +10,8 @@ use Rattle.meaning.specs.Message.{rowsOf}
 use Rattle.meaning.specs.Listing.{headerLine, rowLines, endLine, listingText}
 use Rattle.meaning.proofs.Walks.{walks}
 use Rattle.meaning.proofs.Lines.{listing-most}
-use Rattle.meaning.proofs.Outcomes.{rows-accepted}
+use Rattle.meaning.proofs.Walks.{walk-of}
+use Rattle.meaning.proofs.Sound.{sound-rows}
 use Rattle.text.specs.Wrote.{Room, Wrote}
 use Rattle.text.specs.Lines.{headerText}
 use Rattle.text.proofs.Laws.{front, behind, then}
@@ -24,7 +24,7 @@ use Rattle.listing.proofs.Turns.{done-as, wrote-as, room-as}
 module _ (s : List ℕ) (count : ℕ) (out : List ℕ) (u : Checked s count) (big : 131072 ≤ length out) (a b k : ℕ) (ea : a ≡ number s 0) (eb : b ≡ number s 12)
     (ek : k ≡ number s 32) where
   sound : walk (whole s) 36 1 k ≡ walked (u .rows) (length s)
-  sound = ap (walk (whole s) 36 1) ek ∙ rows-accepted (whole s) (u .rows) (u .sound)
+  sound = ap (walk (whole s) 36 1) ek ∙ walk-of (sound-rows (whole s) (u .rows) (u .sound) .tree) (omega arith)
 
   parts : textOf s (rowsOf (whole s)) ≡ headerText a b k (length s) ++ (rowLines (u .rows) ++ endLine count)
   unfolding listingText headerLine headerText

@@ -1,5 +1,4 @@
 -- What a sound walk tells the code that follows it: one structure, all that is inside it, and what comes behind.
--- Assumes nothing.
 use mathlib.Core.Path.{_≡_, refl, sym, ap, _∙_}
 use mathlib.Core.Bool.{Bool, cond}
 use mathlib.Core.List.{List, [], _∷_, _++_, append-nil}

@@ -79,20 +79,20 @@ module _ (tm : Terms) (st : State) (t : Trace) (s : Sound tm (st .buf) (st .len)
   inside = omega (arith, lies (tm .sheet) P t (s .sheet-ok) (s .message) c (omega arith) .inside)
 
   length-b₁ : length b₁ ≡ length (st .buf)
-  length-b₁ = length-store P (st .buf) (valuePlace (value (t .places) c)) _ (omega (arith, inside, s .lies .in-buffer))
+  length-b₁ = length-store P (st .buf) (valuePlace (value (t .places) c)) _ (omega (arith, inside, s .lies .there))
 
   take-b₁ : take (st .len) b₁ ≡ bump P (take (st .len) (st .buf)) (valuePlace (value (t .places) c))
-  take-b₁ = take-store (st .len) P (st .buf) (valuePlace (value (t .places) c)) _ inside (s .lies .in-buffer)
+  take-b₁ = take-store (st .len) P (st .buf) (valuePlace (value (t .places) c)) _ inside (s .lies .there)
 
   abbrev b₂ : List ℕ
   b₂ = bump P b₁ (countPlace P)
 
   length-b₂ : length b₂ ≡ length (st .buf)
-  length-b₂ = length-store P b₁ (countPlace P) _ (omega (arith, length-b₁, s .lies .in-least, s .lies .in-buffer)) ∙ length-b₁
+  length-b₂ = length-store P b₁ (countPlace P) _ (omega (arith, length-b₁, s .lies .least, s .lies .there)) ∙ length-b₁
 
   take-b₂ : take (st .len) b₂ ≡ bump P (bump P (take (st .len) (st .buf)) (valuePlace (value (t .places) c))) (countPlace P)
   take-b₂ =
-      take-store (st .len) P b₁ (countPlace P) _ (omega (arith, s .lies .in-least)) (omega (arith, length-b₁, s .lies .in-buffer))
+      take-store (st .len) P b₁ (countPlace P) _ (omega (arith, s .lies .least)) (omega (arith, length-b₁, s .lies .there))
       ∙ ap (λ (b : List ℕ). bump P b (countPlace P)) take-b₁
 
   written : (b : Bool) → (b ≡ true → st .len + length g ≤ length (st .buf))
@@ -108,14 +108,14 @@ module _ (tm : Terms) (st : State) (t : Trace) (s : Sound tm (st .buf) (st .len)
   behind true fits =
       let f = fits refl in
       let k = length-b₁ in
-      let n = s .lies .in-least in
+      let n = s .lies .least in
       let i = inside in
       drop-splice b₂ (st .len) g (omega (arith, length-b₂))
       ∙ drop-store (st .len + length g) P b₁ (countPlace P) _ (omega arith) (omega arith)
       ∙ drop-store (st .len + length g) P (st .buf) (valuePlace (value (t .places) c)) _ (omega arith) (omega arith)
   behind false fits =
       let i = inside in
-      rw (add-zero (st .len)) (drop-store (st .len) P (st .buf) (valuePlace (value (t .places) c)) _ (omega arith) (s .lies .in-buffer))
+      rw (add-zero (st .len)) (drop-store (st .len) P (st .buf) (valuePlace (value (t .places) c)) _ (omega arith) (s .lies .there))
 
 pub record AcceptedEvent (tm : Terms) (st : State) (e : Event) (t : Trace) (d : Done) : Type 0 where
   pub trace : Trace

@@ -102,7 +102,7 @@ module _ (tm : Terms) (buf : List ℕ) (len : ℕ) (t : Trace) (s : Sound tm buf
   at-q = lies (tm .sheet) P t (s .sheet-ok) (s .message) c (omega arith)
 
   fits : valuePlace q + 4 ≤ length buf
-  fits = omega (arith, at-q .inside, s .lies .in-buffer)
+  fits = omega (arith, at-q .inside, s .lies .there)
 
   pub length-raised : length b₁ ≡ length buf
   length-raised = length-store P buf (valuePlace q) (num P (valuePlace q) + 1) fits
@@ -143,9 +143,9 @@ module _ (tm : Terms) (buf : List ℕ) (len : ℕ) (t : Trace) (s : Sound tm buf
   raised-sound =
       let a = at-q .inside in
       let z = at-q .behind in
-      let n₀ = s .lies .in-buffer in
-      let n₁ = s .lies .in-least in
-      let n₂ = s .lies .in-most in
+      let n₀ = s .lies .there in
+      let n₁ = s .lies .least in
+      let n₂ = s .lies .most in
       let nr : length b₁ ≡ length buf = length-raised in
       let m : Part = partOf b₁ len in
       let ch : Changed P m q =
@@ -161,7 +161,7 @@ module _ (tm : Terms) (buf : List ℕ) (len : ℕ) (t : Trace) (s : Sound tm buf
       let sm = sound-raised (tm .sheet) P t (s .sheet-ok) (s .message) m c lo hi ch (still-small m ch e n₂) n₂ refl k in
       record {
         sheet-ok = s .sheet-ok;
-        lies = record { in-buffer = omega arith; in-most = n₂; in-least = n₁ };
+        lies = record { there = omega arith; most = n₂; least = n₁ };
         message = subst (λ (v : List ℕ). SoundMessage (tm .sheet) m (record { rows = t .rows; places = t .places; values = v })) (values-risen m ch e n₂) sm;
       }
 
@@ -177,7 +177,7 @@ module _ (tm : Terms) (buf : List ℕ) (len : ℕ) (t : Trace) (s : Sound tm buf
     P′ = partOf b₃ (len + length g)
 
     fits₂ : countPlace P + 4 ≤ length b₁
-    fits₂ = omega (arith, length-raised, s .lies .in-least, s .lies .in-buffer)
+    fits₂ = omega (arith, length-raised, s .lies .least, s .lies .there)
 
     length-b₂ : length b₂ ≡ length buf
     length-b₂ = length-store P b₁ (countPlace P) (parameterCount P + 1) fits₂ ∙ length-raised
@@ -219,8 +219,8 @@ module _ (tm : Terms) (buf : List ℕ) (len : ℕ) (t : Trace) (s : Sound tm buf
     grown-sound =
         let a = at-q .inside in
         let z = at-q .behind in
-        let n₀ = s .lies .in-buffer in
-        let n₁ = s .lies .in-least in
+        let n₀ = s .lies .there in
+        let n₁ = s .lies .least in
         let nb : length b₃ ≡ length buf = length-grown in
         let ch : Changed P P′ q =
         record {
@@ -231,13 +231,13 @@ module _ (tm : Terms) (buf : List ℕ) (len : ℕ) (t : Trace) (s : Sound tm buf
         } in
         let e : num P′ (valuePlace q) ≡ value (t .values) c + 1 =
         raised-value P′ (λ i x y. in-new i (omega arith) ∙ low₃ i (omega arith) ∙ same₂ i (λ w. omega (arith, w .1))) in
-        let n32 : parameterCount P + 1 < 4294967296 = omega (arith, count-le (tm .sheet) P t (s .sheet-ok) (s .message), s .lies .in-most) in
+        let n32 : parameterCount P + 1 < 4294967296 = omega (arith, count-le (tm .sheet) P t (s .sheet-ok) (s .message), s .lies .most) in
         let k : parameterCount P′ ≡ parameterCount P + 1 =
         num-store P b₁ (countPlace P) (parameterCount P + 1) fits₂ P′ n32 (λ i x y. in-new i (omega arith) ∙ low₃ i (omega arith)) in
         let sm = sound-appended (tm .sheet) P t (s .sheet-ok) (s .message) P′ c lo hi ch (still-small P′ ch e most) most _ appended-activity k in
         record {
           sheet-ok = s .sheet-ok;
-          lies = record { in-buffer = omega arith; in-most = most; in-least = omega arith };
+          lies = record { there = omega arith; most = most; least = omega arith };
           message = subst (λ (v : List ℕ). SoundMessage (tm .sheet) P′ (record { rows = t .rows ++ map (shift (P .end)) (sg .rows); places = t .places; values = v }))
               (values-risen P′ ch e most) sm;
         }

@@ -1,5 +1,4 @@
 -- Decimal text: a number's text has the digits of the number, read back it is the number again, and how long it is.
--- Assumes nothing.
 use mathlib.Core.Path.{_≡_, refl, ap, _∙_}
 use mathlib.Core.Bool.{Bool, true, false}
 use mathlib.Core.Logic.{_⊎_, inl, inr}

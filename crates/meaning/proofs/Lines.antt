@@ -1,6 +1,5 @@
 -- The lines of a sound message: they are shorter than its bytes allow for, so that a buffer of 131,072 bytes holds every
 -- listing. Each structure has 16 bytes or more and a line of 28 bytes or less: 4 * 28 is 7 * 16.
--- Assumes nothing.
 use mathlib.Core.Path.{_≡_, refl, sym, ap, _∙_}
 use mathlib.Core.Bool.{true, cond}
 use mathlib.Core.List.{List, [], _∷_, _++_, append-assoc}

@@ -1,5 +1,4 @@
--- How a scan ends: what an accepted message is known to be, and that a refusal's place lies in the message.
--- Assumes nothing.
+-- How a scan or a read ends: the rows that a check has counted, and that a refusal's place lies in the message.
 use mathlib.Core.Path.{sym, _≡_, refl, ap, _∙_}
 use mathlib.Core.Bool.{Bool, true, false, _&&_}
 use mathlib.Core.Logic.{_⊎_, inl, inr}
@@ -20,33 +19,6 @@ use Rattle.meaning.proofs.Structures.{row-at}
 use Rattle.meaning.proofs.Walks.{Walks, walks, walks-fuel}
 use Rattle.meaning.proofs.Scans.{Sized, sized}
 use Rattle.meaning.proofs.Lines.{walks-end}
-
-pub record Accepted (buf : List ℕ) (len : ℕ) (rows : List Row) : Type 0 where
-  pub size : Sized buf len
-  pub sound : rowsOf (partOf buf len) ≡ accepted rows
-  pub walks : Walks (partOf buf len) 36 1 (parameterCount (partOf buf len)) rows len
-
-closed-accepted : (end : ℕ) (w : Walked) (rows : List Row) → closed end w ≡ accepted rows → (w .next ≡ end) × (w .rows ≡ rows)
-unfolding closed
-closed-accepted end w rows e = let a = unless-accepted (eqb (w .next) end) 5 (w .next) (accepted (w .rows)) rows e in (eqb-true (w .next) end (a .0), cc (a .1))
-
-pub rows-accepted : (m : Part) (rows : List Row) → rowsOf m ≡ accepted rows → walk m (firstPlace m) 1 (parameterCount m) ≡ walked rows (m .end)
-unfolding rowsOf
-rows-accepted m rows e =
-    let a = unless-accepted (headerOk m) 2 0 _ rows e in
-    let b = then-accepted (walk m (firstPlace m) 1 (parameterCount m)) (closed (m .end)) rows (a .1) in
-    let c = closed-accepted (m .end) (b .0) rows (b .2) in
-    b .1 ∙ ap (λ (x : ℕ). walked (b .0 .rows) x) (c .0) ∙ ap (λ (x : List Row). walked x (m .end)) (c .1)
-
-pub scan-accepted : (buf : List ℕ) (len : ℕ) (rows : List Row) → scan buf len ≡ accepted rows → Accepted buf len rows
-unfolding scan
-scan-accepted buf len rows e =
-    let a = unless-accepted (lengthOk buf len) 1 0 (rowsOf (partOf buf len)) rows e in
-    record {
-      size = sized buf len (a .0);
-      sound = a .1;
-      walks = walks (partOf buf len) 36 1 (parameterCount (partOf buf len)) rows len (rows-accepted (partOf buf len) rows (a .1));
-    }
 
 -- the number of structures that the check gives
 pub check-accepted : (buf : List ℕ) (len n : ℕ) → check buf len ≡ accepted n → (rows : List Row) × (scan buf len ≡ accepted rows) × (length rows ≡ n)

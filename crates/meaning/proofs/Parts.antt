@@ -1,5 +1,4 @@
 -- The part that a message is: its numbers are those of the lent buffer.
--- Assumes nothing.
 use mathlib.Core.Path.{_≡_, refl}
 use mathlib.Core.Bool.{cond}
 use mathlib.Core.List.{List}

@@ -17,7 +17,8 @@ use Rattle.meaning.specs.Compose.{headerFields, traceHeaderFields, group
 use Rattle.meaning.proofs.Tests.{and-true}
 use Rattle.meaning.proofs.Numbers.{length-words, number-words}
 use Rattle.meaning.proofs.Splices.{length-splice, take-splice, drop-splice}
-use Rattle.meaning.proofs.Sound.{InBuffer, scan-of, read-of}
+use Rattle.meaning.proofs.Sound.{scan-of, read-of}
+use Rattle.meaning.proofs.Scans.{Sized}
 use Rattle.meaning.proofs.Composed.{integerRows, composedRows, placesFrom, composedTally, length-fields, sheet-length, nine-rows, counted-rows, header-word, structures-sound, composed-sound}
 
 -- what holds of a message that Compose has written into a buffer
@@ -68,8 +69,8 @@ module _ (tm : Terms) (v buf : List ℕ) (ok : sheetOk (tm .sheet) ≡ true) (go
   unfolding message composed
   holds k h l = rw (first, zero-add (4 * k)) (number-words (composedFields (tm .sheet) v) k (omega (arith, length-fields (tm .sheet) v ok n8)) l)
 
-  lies : InBuffer (splice buf 0 message) 180
-  lies = record { in-buffer = omega (arith, length-splice buf 0 message fits); in-most = omega arith; in-least = omega arith }
+  lies : Sized (splice buf 0 message) 180
+  lies = record { there = omega (arith, length-splice buf 0 message fits); most = omega arith; least = omega arith }
 
   scanned : scan (splice buf 0 message) 180 ≡ accepted (composedRows 0 (tm .sheet))
   scanned = scan-of (splice buf 0 message) 180 (composedRows 0 (tm .sheet)) lies (structures-sound (tm .sheet) v ok n8 fit m holds refl)

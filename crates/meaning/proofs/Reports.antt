@@ -101,7 +101,7 @@ module _ (r g : List ℕ) (sg : Group g) (room : 36 + length g ≤ length r) whe
       let n = sg .most in
       let s : scan report (36 + length g) ≡ accepted (map (shift 36) (sg .rows)) =
       scan-of report (36 + length g) (map (shift 36) (sg .rows))
-      (record { in-buffer = omega (arith, length-splice r 0 (reportOf g) fits); in-most = omega arith; in-least = omega arith }) structures in
+      (record { there = omega (arith, length-splice r 0 (reportOf g) fits); most = omega arith; least = omega arith }) structures in
       record {
         rows = map (shift 36) (sg .rows);
         scanned = s;

@@ -1,5 +1,4 @@
 -- A whole message: what its length tells, and its rows by the tests that come first.
--- Assumes nothing.
 use mathlib.Core.Path.{_≡_, refl, sym, ap, _∙_}
 use mathlib.Core.Bool.{Bool, true, false, _&&_}
 use mathlib.Core.List.{List}

@@ -6,7 +6,7 @@ use Prim.Native.Nat.{ℕ, _≤_}
 use native.Mathlib.Omega.{arith}
 use lib.ListN.{length}
 use lib.Dec.{leb, eqb}
-use borrow.Author.Tests.{leb-true, le-leb, eqb-true, eq-eqb}
+use borrow.Author.Tests.{le-leb, eqb-true, eq-eqb}
 use Rattle.meaning.specs.Bytes.{Part}
 use Rattle.meaning.specs.Names.{mostBytes}
 use Rattle.meaning.specs.Answer.{accepted}
@@ -15,17 +15,13 @@ use Rattle.meaning.specs.Walk.{walk}
 use Rattle.meaning.specs.Message.{parameterCount, firstPlace, headerOk, partOf, lengthOk, closed, rowsOf, scan}
 use Rattle.meaning.specs.Trace.{Terms, Trace, sheetOk, traceHeader, traceRoutes, directMembers, eachOnce, placesOf, valuesAt, inRange, readMembers, readRows, readTrace}
 use Rattle.meaning.proofs.Tests.{and-true, unless-accepted, then-accepted}
+use Rattle.meaning.proofs.Scans.{Sized, sized}
 use Rattle.meaning.proofs.Walks.{Walks, walks, walks-as, walk-of}
 
 -- A SOUND MESSAGE, as check sees it
 pub record SoundRows (m : Part) (rows : List Row) : Type 0 where
   pub header : headerOk m ≡ true
   pub tree : Walks m (firstPlace m) 1 (parameterCount m) rows (m .end)
-
-pub record InBuffer (buf : List ℕ) (len : ℕ) : Type 0 where
-  pub in-buffer : len ≤ length buf
-  pub in-most : len ≤ mostBytes
-  pub in-least : 36 ≤ len
 
 pub sound-rows : (m : Part) (rows : List Row) → rowsOf m ≡ accepted rows → SoundRows m rows
 unfolding rowsOf closed
@@ -44,24 +40,17 @@ pub rows-of : (m : Part) (rows : List Row) → SoundRows m rows → rowsOf m ≡
 unfolding rowsOf closed
 rows-of m rows s = rw (s .header, walk-of (s .tree) (omega arith), eq-eqb (m .end) (m .end) refl) refl
 
-pub in-buffer-of : (buf : List ℕ) (len : ℕ) → lengthOk buf len ≡ true → InBuffer buf len
+pub length-ok : (buf : List ℕ) (len : ℕ) → Sized buf len → lengthOk buf len ≡ true
 unfolding lengthOk
-in-buffer-of buf len e =
-    let h = and-true (leb len (length buf)) (leb len mostBytes && leb 36 len) e in
-    let k = and-true (leb len mostBytes) (leb 36 len) (h .1) in
-    record { in-buffer = leb-true _ _ (h .0); in-most = leb-true _ _ (k .0); in-least = leb-true _ _ (k .1) }
+length-ok buf len b = rw (le-leb len (length buf) (b .there), le-leb len mostBytes (b .most), le-leb 36 len (b .least)) refl
 
-pub length-ok : (buf : List ℕ) (len : ℕ) → InBuffer buf len → lengthOk buf len ≡ true
-unfolding lengthOk
-length-ok buf len b = rw (le-leb len (length buf) (b .in-buffer), le-leb len mostBytes (b .in-most), le-leb 36 len (b .in-least)) refl
-
-pub sound-scan : (buf : List ℕ) (len : ℕ) (rows : List Row) → scan buf len ≡ accepted rows → InBuffer buf len × SoundRows (partOf buf len) rows
+pub sound-scan : (buf : List ℕ) (len : ℕ) (rows : List Row) → scan buf len ≡ accepted rows → Sized buf len × SoundRows (partOf buf len) rows
 unfolding scan
 sound-scan buf len rows e =
     let f = unless-accepted (lengthOk buf len) 1 0 _ rows e in
-    (in-buffer-of buf len (f .0), sound-rows (partOf buf len) rows (f .1))
+    (sized buf len (f .0), sound-rows (partOf buf len) rows (f .1))
 
-pub scan-of : (buf : List ℕ) (len : ℕ) (rows : List Row) → InBuffer buf len → SoundRows (partOf buf len) rows → scan buf len ≡ accepted rows
+pub scan-of : (buf : List ℕ) (len : ℕ) (rows : List Row) → Sized buf len → SoundRows (partOf buf len) rows → scan buf len ≡ accepted rows
 unfolding scan
 scan-of buf len rows b s = rw (length-ok buf len b) (rows-of (partOf buf len) rows s)
 
@@ -77,7 +66,7 @@ pub record SoundMessage (sheet : List ℕ) (m : Part) (t : Trace) : Type 0 where
 
 pub record Sound (tm : Terms) (buf : List ℕ) (len : ℕ) (t : Trace) : Type 0 where
   pub sheet-ok : sheetOk (tm .sheet) ≡ true
-  pub lies : InBuffer buf len
+  pub lies : Sized buf len
   pub message : SoundMessage (tm .sheet) (partOf buf len) t
 
 sound-rows-read : (sheet : List ℕ) (m : Part) (rows : List Row) (t : Trace) → SoundRows m rows → readRows sheet m rows ≡ accepted t → SoundMessage sheet m t

@@ -1,5 +1,4 @@
 -- Counting rows: the counts of the types, their sum, and how many rows there is room for.
--- Assumes nothing.
 use mathlib.Core.Path.{_≡_, refl, sym, ap, _∙_}
 use mathlib.Core.Bool.{Bool, true, false, cond}
 use mathlib.Core.List.{List, [], _∷_, _++_, sum}

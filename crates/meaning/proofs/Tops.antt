@@ -1,5 +1,4 @@
 -- Top-level structures and direct members of a walk, one after the other, and what each top-level structure is.
--- Assumes nothing.
 use mathlib.Core.Path.{_≡_, refl, sym, ap, _∙_, subst}
 use mathlib.Core.Bool.{Bool, true, false, cond}
 use mathlib.Core.List.{List, [], _∷_, _++_, append-nil}

@@ -50,7 +50,7 @@ module _ (tm : Terms) (x y : State) (t : Trace) (s : Sound tm (x .buf) (x .len) 
   pub count-alike : parameterCount P ≡ parameterCount Q
   count-alike =
       let z = at-limit .behind in
-      let k = s .lies .in-least in
+      let k = s .lies .least in
       num-same P Q (countPlace P) (λ i v w. bytes-alike i (omega arith) (λ b. omega (arith, b .0)))
 
   pub changed : Changed P Q (value (t .places) MaxActivities)
@@ -134,7 +134,7 @@ module _ (tm : Terms) (x y : State) (t : Trace) (s : Sound tm (x .buf) (x .len) 
   inside : valuePlace q + 4 ≤ length (x .buf)
   inside =
       let l = lies (tm .sheet) (partOf (x .buf) (x .len)) t (s .sheet-ok) (s .message) c (omega arith) in
-      omega (arith, l .inside, s .lies .in-buffer)
+      omega (arith, l .inside, s .lies .there)
 
   lengths : (length x₁ ≡ length (x .buf)) × (length y₁ ≡ length (x .buf))
   lengths =
@@ -161,7 +161,7 @@ module _ (tm : Terms) (x y : State) (t : Trace) (s : Sound tm (x .buf) (x .len) 
     counted b = bump m b (countPlace m)
 
     counted-fits : (b : List ℕ) → length b ≡ length (x .buf) → countPlace m + 4 ≤ length b
-    counted-fits b e = omega (arith, s .lies .in-least, s .lies .in-buffer)
+    counted-fits b e = omega (arith, s .lies .least, s .lies .there)
 
     counted-length : (b : List ℕ) → length b ≡ length (x .buf) → length (counted b) ≡ length b
     counted-length b e = length-store m b (countPlace m) _ (counted-fits b e)

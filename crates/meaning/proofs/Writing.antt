@@ -1,5 +1,4 @@
 -- What is written piece by piece: runs of bytes and of numbers one behind the other, and a part that was lent on.
--- Assumes nothing.
 use mathlib.Core.Path.{_≡_, refl, sym, ap, _∙_}
 use mathlib.Core.List.{List, [], _∷_, _++_, append-assoc, append-nil}
 use Prim.Native.Nat.{ℕ, _+_, _*_, _-_, _≤_}

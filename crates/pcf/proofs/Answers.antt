@@ -1,5 +1,4 @@
 -- What is told of the meaning's answer by the case of an enum that the code has in hand.
--- Assumes nothing.
 use mathlib.Core.Path.{_≡_, sym, ap, _∙_}
 use Prim.Native.Nat.{ℕ}
 use Rattle.meaning.specs.Answer.{Result, accepted}

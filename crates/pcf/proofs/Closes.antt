@@ -1,5 +1,4 @@
 -- How a message is closed: what the walk over all its structures came to, and what the meaning makes of it.
--- Assumes nothing.
 use mathlib.Core.Path.{_≡_, refl, sym, ap, _∙_}
 use mathlib.Core.List.{List, sum}
 use Prim.Native.Nat.{ℕ, _+_, _*_, _≤_, _<_}

@@ -1,5 +1,4 @@
 -- The laws of counts: what rows add, one at a time and one list behind another, and that no count runs over.
--- Assumes nothing.
 use mathlib.Core.Path.{_≡_, refl, sym, ap, _∙_}
 use mathlib.Core.Bool.{cond}
 use mathlib.Core.List.{List, [], _∷_, _++_}

@@ -1,5 +1,4 @@
 -- The arms of the length test, each over plain numbers: what a rule asks, said with the fields that were read.
--- Assumes nothing.
 use mathlib.Core.Path.{_≡_, refl, sym}
 use mathlib.Core.Bool.{Bool, false, _&&_}
 use mathlib.Core.List.{List}

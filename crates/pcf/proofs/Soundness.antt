@@ -1,5 +1,4 @@
 -- One structure, said with the numbers that were read: when it is sound, and what the meaning makes of it.
--- Assumes nothing.
 use mathlib.Core.Path.{_≡_, refl, sym, ap, _∙_}
 use mathlib.Core.Bool.{Bool, true, false, cond, not, _&&_, Bool·not-not}
 use mathlib.Core.List.{List}

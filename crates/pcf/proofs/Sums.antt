@@ -1,5 +1,4 @@
 -- The sum of a list, one element after the other.
--- Assumes nothing.
 use mathlib.Core.Path.{_≡_, refl, ap, _∙_}
 use mathlib.Core.List.{List, [], _∷_, sum}
 use Prim.Native.Nat.{ℕ, zero, suc, _+_, _≤_}

@@ -1,5 +1,4 @@
 -- One law for every width: the product of a number of j bits and one of k has at most j + k.
--- Assumes nothing.
 use mathlib.Core.Path.{subst⁻¹}
 use Prim.Native.Nat.{ℕ, _+_, _*_, _^_, _<_}
 use native.Mathlib.Nat.{le-of-lt, lt-of-le-of-lt, mul-le-mul-left, mul-lt-mul-of-pos-right}

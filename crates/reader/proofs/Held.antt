@@ -1,5 +1,4 @@
 -- A `Reader` over a signature's one lifetime, for the walks: its type, how it is declared, and its laws.
--- Assumes nothing.
 use contract.Lifetimes.{Lfts}
 use denote.RattleType.{RattleType}
 use denote.Signature.{namedLft}

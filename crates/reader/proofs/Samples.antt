@@ -1,5 +1,4 @@
 -- A message read one structure at a time, computed: at the top level a group with one member, then an integer, and no more.
--- Assumes nothing.
 use mathlib.Core.Path.{_≡_, refl}
 use mathlib.Core.List.{List, [], _∷_, _++_}
 use Prim.Native.Nat.{ℕ, _+_}

@@ -1,5 +1,4 @@
 -- The n-th structure of the top level, by what the code finds.
--- Assumes nothing.
 use mathlib.Core.Path.{_≡_, refl, ap, _∙_}
 use mathlib.Core.Bool.{Bool, true, false}
 use mathlib.Core.List.{List}

@@ -1,5 +1,4 @@
 -- What the entries hand out, from the trace that was read.
--- Assumes nothing.
 use mathlib.Core.Path.{_≡_, refl, sym, ap, _∙_}
 use mathlib.Core.Bool.{Bool, true, false}
 use mathlib.Core.List.{List, [], _∷_}
@@ -61,7 +60,7 @@ span-in tm buf len t e n = go (ltb n (length (activities (t .rows)))) refl
     go true h =
         let s = sound tm buf len t e in
         let g = nth-at (partOf buf len) 36 (parameterCount (partOf buf len)) (t .rows) (s .message .structures .tree) «MQGACF_ACTIVITY» n (ltb-true n (length (activities (t .rows))) h) in
-        omega (arith, g .fills, g .ends, s .lies .in-buffer)
+        omega (arith, g .fills, g .ends, s .lies .there)
     go false h = rw (List·getD-eq-default (activities (t .rows)) noGroup (ltb-false n (length (activities (t .rows))) h)) (omega arith)
 
 pub activity-in : (tm : Terms) (buf : List ℕ) (len n : ℕ) → activityGroup tm buf len n .place + activityGroup tm buf len n .length ≤ length buf

@@ -1,5 +1,4 @@
 -- The rest of a list, one element after the other, and an array that is filled one element after the other.
--- Assumes nothing.
 use mathlib.Core.Path.{_≡_, refl, sym, ap, _∙_}
 use mathlib.Core.Bool.{Bool, true, false}
 use mathlib.Core.List.{List, [], _∷_}

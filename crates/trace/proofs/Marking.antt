@@ -1,5 +1,4 @@
 -- The marks of the attributes, one direct member after the other; what they come to is what the meaning asks.
--- Assumes nothing.
 use mathlib.Core.Path.{_≡_, refl, sym, ap, _∙_, subst}
 use mathlib.Core.Bool.{Bool, true, false, cond, _&&_}
 use mathlib.Core.List.{List, [], _∷_, _++_, map}

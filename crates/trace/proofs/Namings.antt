@@ -1,5 +1,4 @@
 -- The first string with an identifier, one direct member after the other, and the name that it is.
--- Assumes nothing.
 use mathlib.Core.Path.{_≡_, refl, sym, ap, _∙_, subst}
 use mathlib.Core.Bool.{Bool, true, false, _&&_}
 use mathlib.Core.List.{List, [], _∷_, _++_}
@@ -172,7 +171,7 @@ module _ (tm : Terms) (buf : List ℕ) (len n id : ℕ) (o : Outcome) (h : o ≡
     facts = sound tm buf len (trace .0) (trace .1)
 
     pub message-in : (len ≤ length buf) × (len ≤ mostBytes)
-    message-in = (facts .lies .in-buffer, facts .lies .in-most)
+    message-in = (facts .lies .there, facts .lies .most)
 
     abbrev top : Top
     top = getD (activities (trace .0 .rows)) n noGroup

@@ -1,5 +1,4 @@
 -- Laws of tests that are taken together.
--- Assumes nothing.
 use mathlib.Core.Path.{_≡_, refl}
 use mathlib.Core.Bool.{Bool, true, false, not, _&&_, _||_}
 use Rattle.meaning.specs.Answer.{Result, when}

@@ -1,5 +1,4 @@
 -- `answers::number` meets its contract: in each arm the case is known, and the table computes.
--- Assumes nothing.
 use mathlib.Core.Path.{sym, ap}
 use borrow.Author.Needs.{needs}
 use Rattle.answers.specs.Refusals.{numberOf}

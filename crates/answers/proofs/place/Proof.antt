@@ -1,5 +1,4 @@
 -- `answers::place` meets its contract: three refusals have a place of their own, and the table has 0 for the others.
--- Assumes nothing.
 use mathlib.Core.Path.{_≡_, refl, sym, ap}
 use mathlib.Core.List.{List, [], _∷_}
 use Prim.Native.Nat.{ℕ}

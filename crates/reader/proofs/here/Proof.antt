@@ -1,6 +1,5 @@
 -- `reader::here` meets its contract: a walk of its MIR, by hand. The reader is taken apart, and `pcf::step` is called on its slice, the slice's length and its cursor. All that the proof knows of `step` is that it meets its contract.
 -- A reader is Copy: what it owns is had twice, one copy is kept whole for the exit, and of the other what the fields own goes to the callee, with the facts of the length between them, beside the lifetime's token, which comes back.
--- Assumes nothing.
 use mathlib.Core.Path.{_≡_, refl}
 use Prim.Native.Nat.{ℕ, _<_, _^_}
 use mathlib.Core.List.{[], _∷_}

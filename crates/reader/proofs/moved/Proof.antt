@@ -1,6 +1,5 @@
 -- `reader::moved` meets its contract: a walk of its MIR, by hand. A reader is made anew of the slice that the one passed holds, and another cursor.
 -- A reader is Copy: what it owns is had twice, one copy is kept whole for the exit, and the other, with the facts of the cursor passed in the place of its own's, is what the result owns.
--- Assumes nothing.
 use mathlib.Core.Path.{refl}
 use mathlib.Core.List.{[], _∷_}
 use lib.Dec.{T as Holds}

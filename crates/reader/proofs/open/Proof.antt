@@ -1,6 +1,5 @@
 -- `reader::open` meets its contract: a walk of its MIR, by hand. A reader is made of the slice passed and the first cursor, in the result's local.
 -- A `&[u8]` is Copy, so what it owns is had twice: once for msg at exit, and once inside the result, beside the facts of the cursor.
--- Assumes nothing.
 use mathlib.Core.Path.{refl}
 use Prim.Native.Nat.{ℕ}
 use mathlib.Core.List.{List, [], _∷_}

@@ -1,5 +1,4 @@
 -- `wire::copy` meets its contract. The invariant: the first i bytes are copied, and the rest is as it was.
--- Assumes nothing.
 use mathlib.Core.Path.{_≡_, _∙_, subst}
 use mathlib.Core.List.{List}
 use Prim.Native.Nat.{ℕ, suc, _+_, _-_, _≤_, _<_}

@@ -1,5 +1,4 @@
 -- `wire::number_at` meets its contract: the sum of the four bytes is the number, which multiplies as it goes.
--- Assumes nothing.
 use native.Mathlib.Omega.{arith}
 use borrow.Author.Needs.{needs}
 use Rattle.meaning.specs.Bytes.{number}

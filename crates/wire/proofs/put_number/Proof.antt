@@ -1,5 +1,4 @@
 -- `wire::put_number` meets its contract: four stores in a row are one splice.
--- Assumes nothing.
 use native.Mathlib.Omega.{arith}
 use lib.ListN.{length-set}
 use borrow.Author.Needs.{needs}

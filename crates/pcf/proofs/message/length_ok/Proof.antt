@@ -1,5 +1,4 @@
 -- `message::length_ok` meets its contract.
--- Assumes nothing.
 use borrow.Author.Tests.{le-leb, lt-leb}
 use Rattle.meaning.specs.Message.{lengthOk}
 use Rattle.pcf.proofs.message.length_ok.Statement.{statement}

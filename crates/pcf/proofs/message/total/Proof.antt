@@ -1,5 +1,4 @@
 -- `message::total` meets its contract. The invariant: the first k counts are summed.
--- Assumes nothing.
 use mathlib.Core.Path.{_≡_}
 use mathlib.Core.List.{sum}
 use Prim.Native.Nat.{_+_, _-_, _≤_}

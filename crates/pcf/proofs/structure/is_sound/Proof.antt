@@ -1,5 +1,4 @@
 -- `structure::is_sound` meets its contract.
--- Assumes nothing.
 use borrow.Author.Needs.{needs}
 use denote.Ref.{now}
 use Rattle.pcf.proofs.Soundness.{past, tiny, odd, even}

@@ -1,5 +1,4 @@
 -- `structure::members_of` meets its contract.
--- Assumes nothing.
 use borrow.Author.Tests.{eq-eqb, ne-eqb}
 use Rattle.pcf.proofs.structure.members_of.Statement.{statement}
 use Rattle.pcf.proofs.structure.members_of.Tie as tie

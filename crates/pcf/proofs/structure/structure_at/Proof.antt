@@ -1,5 +1,4 @@
 -- `structure::structure_at` meets its contract: the meaning goes by the same two tests.
--- Assumes nothing.
 use mathlib.Core.Path.{sym, _∙_}
 use native.Mathlib.Omega.{arith}
 use borrow.Author.Needs.{needs}

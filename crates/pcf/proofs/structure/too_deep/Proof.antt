@@ -1,5 +1,4 @@
 -- `structure::too_deep` meets its contract.
--- Assumes nothing.
 use borrow.Author.Tests.{eq-eqb, ne-eqb}
 use Rattle.pcf.proofs.structure.too_deep.Statement.{statement}
 use Rattle.pcf.proofs.structure.too_deep.Tie as tie

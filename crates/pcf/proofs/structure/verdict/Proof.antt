@@ -1,5 +1,4 @@
 -- `structure::verdict` meets its contract.
--- Assumes nothing.
 use Rattle.pcf.proofs.structure.verdict.Statement.{statement}
 use Rattle.pcf.proofs.structure.verdict.Tie as tie
 

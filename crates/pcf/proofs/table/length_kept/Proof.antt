@@ -1,5 +1,4 @@
 -- `table::length_kept` meets its contract: in each arm the rule is known, and the numbers read are its fields.
--- Assumes nothing.
 use mathlib.Core.Path.{_≡_, refl, _∙_}
 use native.Mathlib.Omega.{arith}
 use borrow.Author.Needs.{needs}

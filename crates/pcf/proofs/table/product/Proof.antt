@@ -1,5 +1,4 @@
 -- `table::product` meets its contract: a number of 32 bits and one of 31 have a product of 63.
--- Assumes nothing.
 use mathlib.Core.Path.{refl}
 use Prim.Native.Nat.{_*_, _<_}
 use native.Mathlib.Omega.{arith}

@@ -1,5 +1,4 @@
 -- `table::rule_of` meets its contract: at each of the eleven types the table computes, and any other number is none of them.
--- Assumes nothing.
 use mathlib.Core.Path.{_≡_, refl}
 use Prim.Native.Nat.{ℕ, _<_, _≤_}
 use native.Mathlib.Omega.{arith}

@@ -1,5 +1,4 @@
 -- `activities::activity_group` meets its contract: the part is the span's, and it lies in the message's memory.
--- Assumes nothing.
 use mathlib.Core.Path.{refl, ap}
 use Prim.Native.Nat.{_+_, _≤_}
 use native.Mathlib.Omega.{arith}

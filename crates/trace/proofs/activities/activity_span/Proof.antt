@@ -1,5 +1,4 @@
 -- `activities::activity_span` meets its contract.
--- Assumes nothing.
 use mathlib.Core.Path.{_≡_, ap, _∙_}
 use denote.Ref.{now}
 use Rattle.meaning.specs.Trace.{readTrace}

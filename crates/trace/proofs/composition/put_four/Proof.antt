@@ -1,5 +1,4 @@
 -- `composition::put_four` meets its contract: four numbers one behind the other.
--- Assumes nothing.
 use mathlib.Core.Path.{_≡_, _∙_}
 use Rattle.trace.proofs.Composing.{four-words}
 use borrow.Author.Needs.{needs}

@@ -1,5 +1,4 @@
 -- `decisions::forward_by` meets its contract: the meaning's chain of tests is the chain by what is open.
--- Assumes nothing.
 use mathlib.Core.Path.{_≡_, refl, sym, _∙_}
 use mathlib.Core.Bool.{Bool, not, _&&_, _||_}
 use mathlib.Core.List.{List}

@@ -1,5 +1,4 @@
 -- `groups::halted` meets its contract.
--- Assumes nothing.
 use mathlib.Core.Path.{refl}
 use borrow.Author.Needs.{needs}
 use Rattle.trace.proofs.groups.halted.Statement.{statement}

@@ -1,5 +1,4 @@
 -- `groups::none_yet` meets its contract.
--- Assumes nothing.
 use mathlib.Core.Path.{ap}
 use Rattle.trace.specs.declared.groups.Group.{Group}
 use borrow.Author.Needs.{needs}

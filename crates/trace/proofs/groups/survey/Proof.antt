@@ -1,6 +1,5 @@
 -- `groups::survey` meets its contract. The invariant: what is counted from here on, with what was counted before, is what the
 -- whole walk comes to; and no count is above the structures gone over.
--- Assumes nothing.
 use mathlib.Core.Path.{_≡_, refl, sym, ap, _∙_}
 use Prim.Native.Nat.{ℕ, _+_, _-_, _≤_, _<_}
 use native.Mathlib.Omega.{arith}

@@ -1,5 +1,4 @@
 -- `header::has_header` meets its contract. The invariant: the fields from the i-th on tell as much as all of them.
--- Assumes nothing.
 use mathlib.Core.Path.{_≡_, refl, sym, ap, _∙_}
 use Prim.Native.Nat.{ℕ, _+_, _*_, _-_, _≤_, _<_}
 use native.Mathlib.Omega.{arith}

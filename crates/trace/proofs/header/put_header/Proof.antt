@@ -1,5 +1,4 @@
 -- `header::put_header` meets its contract. The invariant: the first i fields are written.
--- Assumes nothing.
 use mathlib.Core.Path.{_≡_, refl, sym, ap, _∙_}
 use mathlib.Core.List.{List}
 use Prim.Native.Nat.{ℕ, _+_, _*_, _-_, _≤_, _<_}

@@ -1,6 +1,5 @@
 -- `location::attributes` meets its contract: all marks are places exactly where each identifier has one integer, and then they
 -- are the meaning's places.
--- Assumes nothing.
 use mathlib.Core.Path.{_≡_, refl, sym, ap, _∙_}
 use mathlib.Core.Bool.{Bool, true, false, not}
 use mathlib.Core.List.{List}

@@ -1,5 +1,4 @@
 -- `location::judge` meets its contract: the meaning makes the same tests.
--- Assumes nothing.
 use mathlib.Core.Path.{_≡_, refl, sym, ap, _∙_}
 use mathlib.Core.Bool.{Bool, true, false}
 use native.Mathlib.Omega.{arith}

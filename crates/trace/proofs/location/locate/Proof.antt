@@ -1,5 +1,4 @@
 -- `location::locate` meets its contract.
--- Assumes nothing.
 use denote.Ref.{now}
 use Rattle.meaning.specs.Trace.{readTrace}
 use Rattle.trace.specs.Composes.{termsOf}

@@ -1,5 +1,4 @@
 -- `location::stopped` meets its contract.
--- Assumes nothing.
 use mathlib.Core.Path.{refl}
 use borrow.Author.Needs.{needs}
 use Rattle.trace.proofs.location.stopped.Statement.{statement}

@@ -1,5 +1,4 @@
 -- `location::trace_of` meets its contract: the tests are Read's, in its order.
--- Assumes nothing.
 use mathlib.Core.Path.{_≡_, refl, sym, ap, _∙_}
 use mathlib.Core.Bool.{Bool, true, false}
 use native.Mathlib.Omega.{arith}

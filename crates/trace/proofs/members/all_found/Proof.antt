@@ -1,5 +1,4 @@
 -- `members::all_found` meets its contract. The invariant: the marks from `k` on tell as much as all of them.
--- Assumes nothing.
 use mathlib.Core.Path.{_≡_, refl, sym, _∙_}
 use Prim.Native.Nat.{ℕ, _+_, _-_, _≤_, _<_}
 use native.Mathlib.Omega.{arith}

@@ -1,5 +1,4 @@
 -- `members::note_all` meets its contract. The invariant: the first k marks are those after the member.
--- Assumes nothing.
 use mathlib.Core.Path.{_≡_, refl, sym, ap, _∙_}
 use mathlib.Core.List.{List}
 use Prim.Native.Nat.{ℕ, _+_, _-_, _≤_, _<_}

@@ -1,6 +1,5 @@
 -- `names::first_string` meets its contract. The invariant: the first string from here on is the first of all, and the members
 -- from here on are sound.
--- Assumes nothing.
 use mathlib.Core.Path.{_≡_, refl, sym, ap, _∙_}
 use mathlib.Core.Bool.{true}
 use Prim.Native.Nat.{ℕ, _+_, _-_, _≤_, _<_}

@@ -1,5 +1,4 @@
 -- `names::kept` meets its contract. The invariant: the first n bytes, trimmed, are all of them, trimmed.
--- Assumes nothing.
 use mathlib.Core.Path.{_≡_, refl, sym, ap, _∙_}
 use mathlib.Core.List.{List}
 use Prim.Native.Nat.{ℕ, _+_, _-_, _≤_, _<_}

@@ -1,5 +1,4 @@
 -- `names::named_string` meets its contract: the part is the span's in the message's memory, or the substitute itself.
--- Assumes nothing.
 use mathlib.Core.Path.{_≡_, refl, sym, ap, _∙_}
 use Prim.Native.Nat.{_+_, _≤_}
 use native.Mathlib.Omega.{arith}

@@ -1,5 +1,4 @@
 -- `passing::pass` meets its contract: the structure, and the walk over what is inside it.
--- Assumes nothing.
 use native.Mathlib.Omega.{arith}
 use lib.ListN.{replicate}
 use Rattle.meaning.proofs.Structures.{RowAt, row-at}

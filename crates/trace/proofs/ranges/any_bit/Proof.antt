@@ -1,5 +1,4 @@
 -- `ranges::any_bit` meets its contract: the meaning says it with the same mask.
--- Assumes nothing.
 use mathlib.Core.Path.{refl}
 use Rattle.meaning.specs.Trace.{anyBit}
 use Rattle.trace.proofs.ranges.any_bit.Statement.{statement}

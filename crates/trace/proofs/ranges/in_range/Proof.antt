@@ -1,5 +1,4 @@
 -- `ranges::in_range` meets its contract: the same tests, taken together in another order.
--- Assumes nothing.
 use mathlib.Core.Path.{_≡_, ap}
 use mathlib.Core.Bool.{Bool, _&&_}
 use borrow.Author.Needs.{needs}

@@ -1,5 +1,4 @@
 -- `ranges::one_bit` meets its contract: two tests that are not equal differ.
--- Assumes nothing.
 use mathlib.Core.Path.{_≡_, refl}
 use mathlib.Core.Bool.{Bool, true, false, not, Bool·beq}
 use Rattle.meaning.specs.Trace.{anyBit, differ, oneBit}

@@ -1,5 +1,4 @@
 -- `reading::read` meets its contract: the values are those of the trace.
--- Assumes nothing.
 use mathlib.Core.Path.{ap}
 use denote.Ref.{now}
 use Rattle.meaning.specs.Trace.{readTrace, read}

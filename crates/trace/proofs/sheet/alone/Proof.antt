@@ -1,5 +1,4 @@
 -- `sheet::alone` meets its contract. The invariant: what is behind `k` tells as much as what is behind `i`.
--- Assumes nothing.
 use mathlib.Core.Path.{_≡_, refl, sym, _∙_}
 use Prim.Native.Nat.{ℕ, _+_, _-_, _≤_, _<_}
 use native.Mathlib.Omega.{arith}

@@ -1,5 +1,4 @@
 -- `sheet::sheet_ok` meets its contract. The invariant: the numbers from `i` on tell as much as all of them.
--- Assumes nothing.
 use mathlib.Core.Path.{_≡_, refl, sym, ap, _∙_}
 use mathlib.Core.Bool.{Bool, _&&_}
 use Prim.Native.Nat.{ℕ, _+_, _-_, _≤_, _<_}
