@@ -15,7 +15,6 @@ ghost use mathlib.Core.Path.{_≡_};
 ghost use Rattle.meaning.specs.Event.{event};
 ghost use Rattle.trace.specs.Composes.{termsOf};
 ghost use Rattle.event.specs.Events.{activityOf, outcome, state, Discontinues};
-
 pub use plan::Counter;
 pub use plan::Level;
 pub use plan::Settings;

@@ -72,7 +72,11 @@ fn lacks_room(appends: bool, size: usize, len: usize, room: usize) -> bool
 {
     let longer = len + size;
     if appends {
-        if room < longer { true } else { MOST_BYTES < longer }
+        if room < longer {
+            true
+        } else {
+            MOST_BYTES < longer
+        }
     } else {
         false
     }
@@ -83,7 +87,11 @@ fn lacks_report(reports: bool, size: usize, reserve: usize) -> bool
     requires { ⌜ size ≤ 65500 ⌝ }
     ensures { λ r. ⌜ r ≡ (reports && not (leb (reportLength size) reserve)) ⌝ }
 {
-    if reports { reserve < HEADER + size } else { false }
+    if reports {
+        reserve < HEADER + size
+    } else {
+        false
+    }
 }
 
 // `n` if it is wanted, else 0.

@@ -49,7 +49,12 @@ fn told(found: Answer, done: &mut [u64; 4]) -> u64
         Answer::Done(d) => {
             let counter = d.counter;
             let message = d.message;
-            *done = [index_of(counter), flag(d.appended), d.report as u64, message as u64];
+            *done = [
+                index_of(counter),
+                flag(d.appended),
+                d.report as u64,
+                message as u64,
+            ];
             given(message)
         }
     }
@@ -62,12 +67,21 @@ fn level_of(level: u32) -> Level
     if level == 1 {
         return Level::Low;
     }
-    if level == 2 { Level::Medium } else { Level::High }
+    if level == 2 {
+        Level::Medium
+    } else {
+        Level::High
+    }
 }
 
 // A DISCONTINUITY: the message's length, or Read's refusals, then 10 and 11.
 #[no_mangle]
-pub extern "C" fn gw_discontinuity(buffer: &mut [u8], length: usize, sheet: &[u32; 8], done: &mut [u64; 4]) -> u64
+pub extern "C" fn gw_discontinuity(
+    buffer: &mut [u8],
+    length: usize,
+    sheet: &[u32; 8],
+    done: &mut [u64; 4],
+) -> u64
     ensures { λ r. ⌜ Applies (now (sheet .entry)) (state (now (buffer .entry)) length []) discontinuity (now (done .entry)) r (now (done .exit)) (now (buffer .exit)) [] ⌝ }
 {
     let s = *sheet;
@@ -92,7 +106,10 @@ pub extern "C" fn gw_activity(
 {
     let s = *sheet;
     let rank = level_of(level);
-    let settings = Settings { recording, messaging };
+    let settings = Settings {
+        recording,
+        messaging,
+    };
     let found = event::activity(buffer, length, s, rank, group, asked, settings, report);
     told(found, done)
 }

@@ -64,7 +64,13 @@ pub extern "C" fn gw_list(buffer: &[u8], length: usize, text: &mut [u8; 131072])
 // ONE STRUCTURE at any place and depth: the row and the place behind it, or 1, 3 or 4 with the row as it was. The place of
 // 3 and 4 is the one that was asked for, so the answer is the number alone.
 #[no_mangle]
-pub extern "C" fn gw_step(buffer: &[u8], length: usize, place: usize, depth: u32, row: &mut [u64; 7]) -> u64
+pub extern "C" fn gw_step(
+    buffer: &[u8],
+    length: usize,
+    place: usize,
+    depth: u32,
+    row: &mut [u64; 7],
+) -> u64
     ensures { λ r. ⌜ Steps (now (buffer .entry)) length place depth (now (row .entry)) r (now (row .exit)) ⌝ }
 {
     let found = pcf::step(buffer, length, Cursor { place, depth });

@@ -37,7 +37,12 @@ pub extern "C" fn gw_compose(sheet: &[u32; 8], values: &[u32; 8], buffer: &mut [
 
 // READ: 0 and the eight values, or 17, then 1 to 8 and the values stay.
 #[no_mangle]
-pub extern "C" fn gw_read(buffer: &[u8], length: usize, sheet: &[u32; 8], values: &mut [u32; 8]) -> u64
+pub extern "C" fn gw_read(
+    buffer: &[u8],
+    length: usize,
+    sheet: &[u32; 8],
+    values: &mut [u32; 8],
+) -> u64
     ensures { λ r. ⌜ Reads (now (buffer .entry)) length (now (sheet .entry)) (now (values .entry)) r (now (values .exit)) ⌝ }
 {
     let s = *sheet;
@@ -77,7 +82,12 @@ fn judged(found: Judged) -> u64
 
 // FORWARDING: 1, or Read's refusals, then 14, 15 and 16.
 #[no_mangle]
-pub extern "C" fn gw_forward(buffer: &[u8], length: usize, sheet: &[u32; 8], supporting: bool) -> u64
+pub extern "C" fn gw_forward(
+    buffer: &[u8],
+    length: usize,
+    sheet: &[u32; 8],
+    supporting: bool,
+) -> u64
     ensures { λ r. ⌜ r ≡ code (decided (forwarding (terms (now (sheet .entry))) (now (buffer .entry)) length supporting)) ⌝ }
 {
     let s = *sheet;
@@ -95,7 +105,13 @@ pub extern "C" fn gw_arrive(buffer: &[u8], length: usize, sheet: &[u32; 8]) -> u
 
 // THE N-TH ACTIVITY GROUP: its place and length, 0 and 0 if there is none.
 #[no_mangle]
-pub extern "C" fn gw_activity_group(buffer: &[u8], length: usize, sheet: &[u32; 8], n: usize, part: &mut [u64; 2])
+pub extern "C" fn gw_activity_group(
+    buffer: &[u8],
+    length: usize,
+    sheet: &[u32; 8],
+    n: usize,
+    part: &mut [u64; 2],
+)
     ensures { λ _. ⌜ Spans (now (buffer .entry)) length (now (sheet .entry)) n (now (part .exit)) ⌝ }
 {
     let s = *sheet;

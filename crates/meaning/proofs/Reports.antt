@@ -126,6 +126,7 @@ reported-soundly tm st e t d r h z =
     let p : Plan = planOf (t .values) e in
     let a = allowed (t .values) e (length (groupOf e)) (st .len) (length (st .buf)) (length (st .report)) (s .message .range) (ap isDone (w .verdict)) in
     let k : doneBy (planOf (t .values) e) (length (groupOf e)) (st .len) ≡ d = decide-done (t .values) (planOf (t .values) e) (length (groupOf e)) (st .len) _ _ d (w .verdict) in
-    let q : planOf (t .values) e .reports ≡ true = is-reported _ (36 + length (groupOf e)) (λ i. z (ap (λ (x : Done). x .reportLength) (sym k) ∙ i)) in
-    (ap (λ (x : Done). x .reportLength) (sym k) ∙ rw q refl,
-    rw (w .left, q) (sound-report (st .report) (groupOf e) (plan-ok (t .values) e .told q (w .sound-group)) (a .reportable q)))
+    let q : planOf (t .values) e .reports ≡ true = is-reported _ (36 + length (groupOf e)) (λ i. z (ap (λ (x : Done). x .reportLength) (sym k) ∙ i)) in (
+      ap (λ (x : Done). x .reportLength) (sym k) ∙ rw q refl,
+      rw (w .left, q) (sound-report (st .report) (groupOf e) (plan-ok (t .values) e .told q (w .sound-group)) (a .reportable q)),
+    )
