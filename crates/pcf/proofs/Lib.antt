@@ -2,7 +2,7 @@ mod Wide
 mod Lengths
 mod Soundness
 pub mod Counting
-mod Answers
-mod Turns
+pub mod Answers
+pub mod Turns
 mod Sums
-mod Closes
+pub mod Closes

@@ -2,6 +2,7 @@
 use crate::structure::Found;
 use crate::structure::Row;
 use crate::structure::structure_at;
+use crate::table::TWO_TO_31;
 use crate::walk::Ended;
 use crate::walk::siblings;
 use answers::Refusal;
@@ -17,13 +18,11 @@ ghost use Rattle.meaning.specs.Message.{headerOk, partOf, lengthOk, closed, che
 ghost use Rattle.answers.specs.Refusals.{refusal};
 ghost use Rattle.pcf.specs.Messages.{checkedOf, steppedOf, Tallies, TalliedAs};
 
-// The most bytes of a message, and the fewest: those of the header.
+// The most bytes of a message.
 const MOST_BYTES: usize = 65536;
 
+// The header's bytes: no message has fewer, and the first structure is behind them.
 const HEADER: usize = 36;
-
-// Counts from here on are faults.
-const TWO_TO_31: u32 = 2147483648;
 
 // What a check finds: the number of structures, nested ones included, or 1 to 5.
 pub enum Checked {

@@ -4,7 +4,7 @@ use crate::table::rule_of;
 use answers::Refusal;
 use wire::number_at;
 ghost use mathlib.Core.Path.{_≡_};
-ghost use mathlib.Core.Bool.{cond, _&&_};
+ghost use mathlib.Core.Bool.{cond, not, _&&_};
 ghost use Prim.Native.Nat.{_-_, _≤_};
 ghost use lib.Dec.{eqb, ltb};
 ghost use lib.ListN.{length};
@@ -74,18 +74,16 @@ fn members_of(kind: u32, first: u32) -> u32
 }
 
 // 3 comes before 4: a structure that is not sound is 3, however deep.
-fn verdict(sound: bool, deep: bool, row: Row) -> Found
-    ensures { λ r. ⌜ foundOf r ≡ judged sound deep (row .place) (rowOf row) ⌝ }
+fn verdict(unsound: bool, deep: bool, row: Row) -> Found
+    ensures { λ r. ⌜ foundOf r ≡ judged (not unsound) deep (row .place) (rowOf row) ⌝ }
 {
-    if sound {
-        if deep {
-            Found::Refused(Refusal::TooDeep(row.place))
-        } else {
-            Found::Structure(row)
-        }
-    } else {
-        Found::Refused(Refusal::BadStructure(row.place))
+    if unsound {
+        return Found::Refused(Refusal::BadStructure(row.place));
     }
+    if deep {
+        return Found::Refused(Refusal::TooDeep(row.place));
+    }
+    Found::Structure(row)
 }
 
 // The structure at `place`, of this depth, in a message that ends at `end`. Any place and depth may be asked for.
@@ -107,6 +105,6 @@ pub fn structure_at(s: &[u8], end: usize, place: usize, depth: u32) -> Found
         size,
         members: members_of(kind, first),
     };
-    let sound = is_sound(s, end, place, kind, size, first);
-    verdict(sound, too_deep(kind, depth), row)
+    let unsound = !is_sound(s, end, place, kind, size, first);
+    verdict(unsound, too_deep(kind, depth), row)
 }

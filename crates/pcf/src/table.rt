@@ -5,7 +5,7 @@ ghost use Prim.Native.Nat.{_+_, _<_};
 ghost use Rattle.pcf.specs.Rules.{kept, JudgesAs, fieldOf, Fields, Product};
 
 // Counts and lengths from here on are faults.
-const TWO_TO_31: u32 = 2147483648;
+pub const TWO_TO_31: u32 = 2147483648;
 
 // The length rule of a structure type. Fields are named by their offset from the structure's start.
 pub enum Rule {
