@@ -1,6 +1,6 @@
 -- `activities::activity_span` meets its contract.
 -- Assumes nothing.
-use mathlib.Core.Path.{_≡_, ap, _∙_}
+use mathlib.Core.Path.{ap, _∙_}
 use denote.Ref.{now}
 use Rattle.meaning.specs.Trace.{readTrace}
 use Rattle.meaning.specs.Activity.{activityGroup}
