@@ -1,4 +1,4 @@
--- The entries, over plain lists and numbers. Assumes nothing.
+-- The entries, over plain lists and numbers.
 use mathlib.Core.Path.{_≡_, refl, sym, ap, _∙_, subst}
 use mathlib.Core.List.{List, _++_}
 use Prim.Native.Nat.{ℕ, _+_, _≤_, _<_}

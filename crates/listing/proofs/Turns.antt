@@ -1,4 +1,4 @@
--- The turns of the code that writes the lines of a walk, each over plain lists and numbers. Assumes nothing.
+-- The turns of the code that writes the lines of a walk, each over plain lists and numbers.
 use mathlib.Core.Path.{_≡_, refl, sym, ap, _∙_, subst}
 use mathlib.Core.List.{List, [], _++_, append-nil}
 use Prim.Native.Nat.{ℕ, _+_, _-_, _≤_, _<_}

@@ -1,4 +1,4 @@
--- How texts are joined, and the turn by which digits are written. Assumes nothing.
+-- How texts are joined, and the turn by which digits are written.
 use mathlib.Core.Path.{_≡_, sym, ap, _∙_}
 use mathlib.Core.List.{List, [], _∷_, _++_}
 use Prim.Native.Nat.{ℕ, _+_, _-_, _/_, _%_, _≤_, _<_}

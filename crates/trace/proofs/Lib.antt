@@ -1,11 +1,11 @@
-pub mod Lists
-pub mod Tests
-pub mod Sheets
-pub mod Headers
-pub mod Composing
-pub mod Turns
-pub mod Surveys
-pub mod Marking
-pub mod Locating
+mod Lists
+mod Tests
+mod Sheets
+mod Headers
+mod Composing
+mod Turns
+mod Surveys
+mod Marking
+mod Locating
 pub mod Entries
-pub mod Namings
+mod Namings

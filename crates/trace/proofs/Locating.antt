@@ -1,8 +1,8 @@
 -- Read's refusals, by the tests that the code makes.
 use mathlib.Core.Path.{_≡_, refl, sym, ap, _∙_, subst}
 use mathlib.Core.Bool.{Bool, true, false, _&&_}
-use mathlib.Core.List.{List, [], _∷_, _++_, append-nil}
-use Prim.Native.Nat.{ℕ, zero, suc, _+_, _-_, _≤_, _<_}
+use mathlib.Core.List.{List, [], _∷_, append-nil}
+use Prim.Native.Nat.{ℕ, _+_, _-_, _≤_, _<_}
 use native.Mathlib.Omega.{arith}
 use lib.ListN.{length, getD, take}
 use lib.Dec.{leb, eqb}
@@ -13,7 +13,7 @@ use Rattle.meaning.specs.Answer.{Result, accepted, refused, andThen, unless}
 use Rattle.meaning.specs.Structure.{Row}
 use Rattle.meaning.specs.Walk.{Walked, walked, walk}
 use Rattle.meaning.specs.Message.{partOf, headerOk, lengthOk, closed, scan}
-use Rattle.meaning.specs.Trace.{Terms, Trace, sheetOk, traceFields, traceHeader, Top, groups, groupsIn, tops, traceRoutes, directIn, directMembers, eachOnce, placesOf, valuesAt, inRange, readMembers, readRows, readTrace}
+use Rattle.meaning.specs.Trace.{Terms, Trace, sheetOk, traceFields, traceHeader, Top, groups, traceRoutes, directIn, directMembers, eachOnce, placesOf, valuesAt, inRange, readMembers, readRows, readTrace}
 use Rattle.meaning.specs.Activity.{noGroup}
 use Rattle.meaning.specs.Compose.{headerFields, traceHeaderFields}
 use Rattle.meaning.proofs.Tests.{clash, and-true, and-false}
@@ -29,7 +29,6 @@ use Rattle.trace.specs.declared.groups.Group.{Group}
 use Rattle.trace.specs.declared.groups.Counted.{Counted}
 use Rattle.trace.specs.declared.header.Kind.the-variants.{Trace as trace}
 use Rattle.trace.proofs.Marking.{Every, Placed, every-direct}
-use Rattle.trace.proofs.Turns.{endOf, end-next, end-refused}
 
 -- WHERE THE MEMBERS of a group stand: behind its start, and in the message
 module _ (m : Part) (p n : ℕ) where
@@ -213,45 +212,52 @@ module _ (tm : Terms) (buf : List ℕ) (len n : ℕ) where
     unfolding readTrace
     trace-unscanned k q e = rw (ok, e) refl
 
-    module _ (sized : lengthOk buf len ≡ true) (header : headerOk (partOf buf len) ≡ true) (count : ℕ) (read : count ≡ number buf 32)
-        (s : Surveyed) (e : s ≡ surveyed n (walk (partOf buf len) 36 1 count)) where
-      scanned : scan buf len ≡ andThen (walk (partOf buf len) 36 1 count) (closed len)
-      scanned = scan-walk buf len sized header count read
+-- what the tests before the survey have shown, and the survey itself
+pub record Begun (tm : Terms) (buf : List ℕ) (len n count : ℕ) (s : Surveyed) : Type 0 where
+  pub ok : sheetOk (tm .sheet) ≡ true
+  pub sized : lengthOk buf len ≡ true
+  pub header : headerOk (partOf buf len) ≡ true
+  pub read : count ≡ number buf 32
+  pub surveys : s ≡ surveyed n (walk (partOf buf len) 36 1 count)
 
-      pub trace-halt : (k q : ℕ) → s .ended ≡ refused k q → stop k q ≡ traced n (readTrace tm buf len)
-      trace-halt k q f = trace-unscanned k q (scanned ∙ rw (told-refused n (walk (partOf buf len) 36 1 count) s k q e f) refl)
+module _ {tm : Terms} {buf : List ℕ} {len n count : ℕ} {s : Surveyed} (b : Begun tm buf len n count s) where
+  scanned : scan buf len ≡ andThen (walk (partOf buf len) 36 1 count) (closed len)
+  scanned = scan-walk buf len (b .sized) (b .header) count (b .read)
 
-      module _ (q : ℕ) (f : s .ended ≡ accepted q) where
-        t : Told n (walk (partOf buf len) 36 1 count) s q
-        t = told n (walk (partOf buf len) 36 1 count) s q e f
+  pub trace-halt : (k q : ℕ) → s .ended ≡ refused k q → stop k q ≡ traced n (readTrace tm buf len)
+  trace-halt k q f = trace-unscanned tm buf len n (b .ok) k q (scanned ∙ rw (told-refused n (walk (partOf buf len) 36 1 count) s k q (b .surveys) f) refl)
 
-        pub trace-left : (q ≡ len → ⊥) → stop leftOver q ≡ traced n (readTrace tm buf len)
-        unfolding closed
-        trace-left d = trace-unscanned leftOver q (scanned ∙ rw (t .over, ne-eqb q len d) refl)
+  module _ (q : ℕ) (f : s .ended ≡ accepted q) where
+    t : Told n (walk (partOf buf len) 36 1 count) s q
+    t = told n (walk (partOf buf len) 36 1 count) s q (b .surveys) f
 
-        module _ (z : q ≡ len) where
-          tree : Walks (partOf buf len) 36 1 count (t .rows) len
-          tree = walks-as refl refl z (walks (partOf buf len) 36 1 count (t .rows) q (t .over))
+    pub trace-left : (q ≡ len → ⊥) → stop leftOver q ≡ traced n (readTrace tm buf len)
+    unfolding closed
+    trace-left d = trace-unscanned tm buf len n (b .ok) leftOver q (scanned ∙ rw (t .over, ne-eqb q len d) refl)
 
-          whole-rows : scan buf len ≡ accepted (t .rows)
-          unfolding closed
-          whole-rows = scanned ∙ ap (λ (x : Result Walked). andThen x (closed len)) (t .over) ∙ rw (eq-eqb q len z) refl
+    module _ (z : q ≡ len) where
+      tree : Walks (partOf buf len) 36 1 count (t .rows) len
+      tree = walks-as refl refl z (walks (partOf buf len) 36 1 count (t .rows) q (t .over))
 
-          whole-read : readTrace tm buf len ≡ readRows (tm .sheet) (partOf buf len) (t .rows)
-          unfolding readTrace
-          whole-read = rw ok (ap (λ (x : Result (List Row)). andThen x (readRows (tm .sheet) (partOf buf len))) whole-rows)
+      whole-rows : scan buf len ≡ accepted (t .rows)
+      unfolding closed
+      whole-rows = scanned ∙ ap (λ (x : Result Walked). andThen x (closed len)) (t .over) ∙ rw (eq-eqb q len z) refl
 
-          pub trace-whole : judgedIn (tm .sheet) (partOf buf len) (s .routes) (s .activities .group) ≡ traced n (readTrace tm buf len)
-          trace-whole =
-              ap (λ (x : Counted). judgedIn (tm .sheet) (partOf buf len) x (s .activities .group)) (t .routes)
-              ∙ ap (λ (x : Counted). judgedIn (tm .sheet) (partOf buf len) (counted «MQGACF_TRACE_ROUTE» 0 (t .rows)) (x .group)) (t .activities)
-              ∙ sym (rows-read (partOf buf len) 36 count (t .rows) tree (tm .sheet) n) ∙ ap (traced n) (sym whole-read)
+      whole-read : readTrace tm buf len ≡ readRows (tm .sheet) (partOf buf len) (t .rows)
+      unfolding readTrace
+      whole-read = rw (b .ok) (ap (λ (x : Result (List Row)). andThen x (readRows (tm .sheet) (partOf buf len))) whole-rows)
 
-          pub route-behind : s .routes .count ≡ 1 → 2 ≤ s .routes .group .inside
-          unfolding counted
-          route-behind =
-              subst (λ (x : Counted). x .count ≡ 1 → 2 ≤ x .group .inside) (sym (t .routes))
-              (λ i. omega (arith, nth-behind (partOf buf len) 36 count (t .rows) tree «MQGACF_TRACE_ROUTE» 0 (omega arith)))
+      pub trace-whole : judgedIn (tm .sheet) (partOf buf len) (s .routes) (s .activities .group) ≡ traced n (readTrace tm buf len)
+      trace-whole =
+          ap (λ (x : Counted). judgedIn (tm .sheet) (partOf buf len) x (s .activities .group)) (t .routes)
+          ∙ ap (λ (x : Counted). judgedIn (tm .sheet) (partOf buf len) (counted «MQGACF_TRACE_ROUTE» 0 (t .rows)) (x .group)) (t .activities)
+          ∙ sym (rows-read (partOf buf len) 36 count (t .rows) tree (tm .sheet) n) ∙ ap (traced n) (sym whole-read)
+
+      pub route-behind : s .routes .count ≡ 1 → 2 ≤ s .routes .group .inside
+      unfolding counted
+      route-behind =
+          subst (λ (x : Counted). x .count ≡ 1 → 2 ≤ x .group .inside) (sym (t .routes))
+          (λ i. omega (arith, nth-behind (partOf buf len) 36 count (t .rows) tree «MQGACF_TRACE_ROUTE» 0 (omega arith)))
 
 -- without the Activity group
 pub located-traced : (n : ℕ) (r : Result Trace) (o : Outcome) → o ≡ traced n r → record { answer = o .answer; places = o .places; values = o .values } ≡ located r

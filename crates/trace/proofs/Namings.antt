@@ -15,7 +15,7 @@ use Rattle.meaning.specs.Structure.{Row}
 use Rattle.meaning.specs.Walk.{Walked, walked, walk}
 use Rattle.meaning.specs.Message.{partOf, parameterCount}
 use Rattle.meaning.specs.Trace.{Terms, Trace, Top, activities, directIn, named, readTrace}
-use Rattle.meaning.specs.Activity.{Span, bytesIn, sizeOf, noGroup, nthActivity, strings, Name, inMessage, substitute, stringAt, trimmedAt, firstName, isPad, trimmed, nameOf}
+use Rattle.meaning.specs.Activity.{Span, bytesIn, noGroup, nthActivity, strings, Name, inMessage, substitute, stringAt, trimmedAt, firstName, isPad, trimmed, nameOf}
 use Rattle.meaning.proofs.Tests.{clash}
 use Rattle.meaning.proofs.Structures.{RowAt, row-at}
 use Rattle.meaning.proofs.Walks.{walks, walk-of, In, here, there, in-nil}
@@ -29,7 +29,7 @@ use Rattle.trace.specs.Locations.{Done, done, Outcome, traced}
 use Rattle.trace.specs.Naming.{firstData, stringIn, isSound}
 use Rattle.trace.specs.declared.groups.Group.{Group}
 use Rattle.trace.proofs.Turns.{Over, walk-halt, walk-over}
-use Rattle.trace.proofs.Marking.{Every, every-if, every-named, every-direct, next-direct}
+use Rattle.trace.proofs.Marking.{Every, every-named, every-direct, next-direct}
 use Rattle.trace.proofs.Locating.{nth-at}
 
 -- ONE TURN over direct members

@@ -1,50 +1,36 @@
 -- A walk, one structure after the other: each with all that is inside it.
 use mathlib.Core.Path.{_≡_, refl, sym, ap, _∙_}
-use mathlib.Core.List.{List, [], _∷_, _++_}
+use mathlib.Core.List.{List, _∷_, _++_}
 use Prim.Native.Nat.{ℕ, zero, suc, _+_, _-_, _≤_, _<_}
 use native.Mathlib.Numerals.{add-one}
 use native.Mathlib.Omega.{arith}
-use lib.ListN.{getD, replicate}
 use Rattle.meaning.specs.Bytes.{Part}
 use Rattle.meaning.specs.Answer.{Result, accepted, refused, andThen}
 use Rattle.meaning.specs.Structure.{Row, structureAt}
 use Rattle.meaning.specs.Walk.{Walked, walked, ahead, enter, walk}
 use Rattle.meaning.specs.Message.{Stepped}
 use Rattle.meaning.proofs.Tests.{clash, then-accepted}
-use Rattle.meaning.proofs.Structures.{RowAt, row-at}
+use Rattle.meaning.proofs.Structures.{RowAt}
 use Rattle.meaning.proofs.Walks.{Walks, walks, walks-le}
 use Rattle.meaning.proofs.Fuel.{walk-zero, walk-suc}
-use Rattle.pcf.specs.Rows.{rowOf, foundOf}
+use Rattle.pcf.specs.Rows.{rowOf}
 use Rattle.pcf.specs.Tallies.{Tally, tallied, endedOf, walkedOf}
 use Rattle.pcf.specs.Messages.{steppedOf}
 use Rattle.answers.specs.declared.Refusal.{Refusal}
 use Rattle.answers.specs.Refusals.{refusal}
 use Rattle.pcf.specs.declared.structure.Row.{Row as Found·Row}
-use Rattle.pcf.specs.declared.structure.Found.{Found}
-use Rattle.pcf.specs.declared.structure.Found.the-variants as found
 use Rattle.pcf.specs.declared.message.Stepped.{Stepped as Steps}
 use Rattle.pcf.specs.declared.message.Stepped.the-variants as steps
 use Rattle.pcf.specs.declared.walk.Walked.{Walked as Counts}
 use Rattle.pcf.specs.declared.walk.Ended.{Ended}
 use Rattle.trace.specs.Passing.{passed}
-use Rattle.trace.proofs.Lists.{zeros-at}
 
 -- what the code has found, in the meaning's terms
-pub is-row : {f : Found} {x : Result Row} {r : Found·Row} → foundOf f ≡ x → f ≡ found.Structure r → x ≡ accepted (rowOf r)
-is-row e h = sym e ∙ ap foundOf h
-
-pub is-refusal : {f : Found} {x : Result Row} {q : Refusal} → foundOf f ≡ x → f ≡ found.Refused q → x ≡ refusal q
-is-refusal e h = sym e ∙ ap foundOf h
-
 pub is-step : {f : Steps} {x : Result Stepped} {r : Found·Row} {q : ℕ} → steppedOf f ≡ x → f ≡ steps.Structure r q → x ≡ accepted (record { row = rowOf r; next = q })
 is-step e h = sym e ∙ ap steppedOf h
 
 pub is-stop : {f : Steps} {x : Result Stepped} {q : Refusal} → steppedOf f ≡ x → f ≡ steps.Refused q → x ≡ refusal q
 is-stop e h = sym e ∙ ap steppedOf h
-
--- counts that have not begun
-pub zeros-low : (n p k : ℕ) → getD (replicate n 0) k 0 ≤ p
-zeros-low n p k = rw (zeros-at n k) (omega arith)
 
 -- where a walk ends
 abbrev pub endOf : Result Walked → Result ℕ

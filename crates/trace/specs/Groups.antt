@@ -1,7 +1,7 @@
 -- Top-level groups as the code hands them out, in the meaning's terms.
 use Prim.Native.Nat.{ℕ, _+_, _-_, _≤_, _<_}
 use mathlib.Core.Bool.{Bool, _&&_}
-use mathlib.Core.List.{List, [], _∷_}
+use mathlib.Core.List.{List}
 use lib.ListN.{length, getD}
 use lib.Dec.{eqb}
 use Rattle.meaning.specs.Names.{«MQCFT_GROUP», «MQGACF_TRACE_ROUTE», «MQGACF_ACTIVITY»}

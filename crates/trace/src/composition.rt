@@ -1,6 +1,9 @@
 // Compose: a trace-route message from a sheet and eight values.
+use crate::groups::MQCFT_GROUP;
+use crate::groups::MQGACF_TRACE_ROUTE;
 use crate::header::Kind;
 use crate::header::put_header;
+use crate::members::MQCFT_INTEGER;
 use crate::ranges::in_range;
 use crate::sheet::sheet_ok;
 use answers::Refusal;
@@ -39,10 +42,10 @@ fn put_trace(buf: &mut [u8], sheet: [u32; 8], values: [u32; 8])
     ensures { λ _. ⌜ now (buf .exit) ≡ splice (now (buf .entry)) 0 (composedOf sheet values) ⌝ }
 {
     put_header(buf, Kind::Trace);
-    put_four(buf, 36, 20, 16, 8003, 8);
+    put_four(buf, 36, MQCFT_GROUP, 16, MQGACF_TRACE_ROUTE, 8);
     let mut k = 0;
     while k < 8 {
-        put_four(buf, 52 + k * 16, 3, 16, sheet[k], values[k]);
+        put_four(buf, 52 + k * 16, MQCFT_INTEGER, 16, sheet[k], values[k]);
         k += 1;
     }
 }

@@ -14,9 +14,9 @@ ghost use Rattle.pcf.specs.Rows.{rowOf};
 ghost use Rattle.trace.specs.Groups.{noGroupYet, noneYet, countRow, Countable, surveyOf, surveyed};
 
 // The type of a group, and the identifiers of the groups that a trace is made of.
-const MQCFT_GROUP: u32 = 20;
+pub const MQCFT_GROUP: u32 = 20;
 
-const MQGACF_TRACE_ROUTE: u32 = 8003;
+pub const MQGACF_TRACE_ROUTE: u32 = 8003;
 
 const MQGACF_ACTIVITY: u32 = 8005;
 

@@ -12,7 +12,8 @@ ghost use Rattle.meaning.specs.Trace.{valuesAt};
 ghost use Rattle.pcf.specs.Rows.{rowOf};
 ghost use Rattle.trace.specs.Marks.{noted, Noted, Marked, allFound, InReach};
 
-const MQCFT_INTEGER: u32 = 3;
+// The type of an attribute.
+pub const MQCFT_INTEGER: u32 = 3;
 
 // An attribute has a mark: the place of its integer, or one of these, which are no places of structures. Once a member with
 // its identifier is no integer, or comes second, it stays at fault.

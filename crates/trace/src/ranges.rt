@@ -5,8 +5,8 @@ ghost use lib.Dec.{eqb};
 ghost use Rattle.meaning.specs.Structure.{small};
 ghost use Rattle.meaning.specs.Trace.{anyBit, oneBit, inRange};
 
-// Counters and MaxActivities are below this.
-const TWO_TO_31: u32 = 2147483648;
+// Counters, MaxActivities and identifiers are below this.
+pub const TWO_TO_31: u32 = 2147483648;
 
 // Some bit of the mask is set.
 pub fn any_bit(x: u32, mask: u32) -> bool

@@ -1,11 +1,9 @@
 // The sheet: the identifiers of the eight attributes, eight different numbers from 1 to 2^31 - 1.
+use crate::ranges::TWO_TO_31;
 ghost use mathlib.Core.Path.{_≡_};
 ghost use Prim.Native.Nat.{_+_, _<_};
 ghost use lib.ListN.{getD, drop};
 ghost use Rattle.meaning.specs.Trace.{absent, sheetOk};
-
-// Identifiers are below this.
-const TWO_TO_31: u32 = 2147483648;
 
 // The number at `i` does not stand again behind it.
 fn alone(sheet: [u32; 8], i: usize) -> bool

@@ -1,4 +1,4 @@
--- `list` meets its contract: what it writes and answers is what the check has shown. Assumes nothing.
+-- `list` meets its contract: what it writes and answers is what the check has shown.
 use mathlib.Core.Path.{sym, ap, _∙_}
 use native.Mathlib.Omega.{arith}
 use borrow.Author.Needs.{needs}

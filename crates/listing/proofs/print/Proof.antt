@@ -1,4 +1,4 @@
--- `print` meets its contract, for every input. Assumes nothing.
+-- `print` meets its contract, for every input.
 use borrow.Author.Needs.{needs}
 use Rattle.listing.proofs.Entries.{print-listed, refused-place, print-refused}
 use Rattle.listing.proofs.print.Statement.{statement}

@@ -1,4 +1,4 @@
--- `refused_line` meets its contract. Assumes nothing.
+-- `refused_line` meets its contract.
 use native.Mathlib.Omega.{arith}
 use borrow.Author.Needs.{needs}
 use Rattle.meaning.proofs.Lines.{refusalLine-most}

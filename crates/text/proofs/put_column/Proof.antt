@@ -1,4 +1,4 @@
--- `put_column` meets its contract: one byte behind a number's text. Assumes nothing.
+-- `put_column` meets its contract: one byte behind a number's text.
 use native.Mathlib.Omega.{arith}
 use borrow.Author.Needs.{needs}
 use Rattle.meaning.specs.Listing.{column}

@@ -1,5 +1,5 @@
 -- `put_decimal` meets its contract. The loop's invariant: what is left to write, the last `left` digits of `rest`, would
--- complete the text of v. Assumes nothing.
+-- complete the text of v.
 use mathlib.Core.Path.{_≡_, sym, ap, _∙_}
 use Prim.Native.Nat.{_≤_}
 use native.Mathlib.Omega.{arith}

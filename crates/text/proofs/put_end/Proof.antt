@@ -1,4 +1,4 @@
--- `put_end` meets its contract: a word, then a column. Assumes nothing.
+-- `put_end` meets its contract: a word, then a column.
 use borrow.Author.Needs.{needs}
 use Rattle.meaning.specs.Listing.{endLine}
 use Rattle.text.proofs.Laws.{front, behind, then}

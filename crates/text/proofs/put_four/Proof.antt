@@ -1,4 +1,4 @@
--- `put_four` meets its contract: four stores are one splice. Assumes nothing.
+-- `put_four` meets its contract: four stores are one splice.
 use native.Mathlib.Omega.{arith}
 use borrow.Author.Needs.{needs}
 use lib.ListN.{length-set}

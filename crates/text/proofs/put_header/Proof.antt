@@ -1,4 +1,4 @@
--- `put_header` meets its contract: a word, then four columns. Assumes nothing.
+-- `put_header` meets its contract: a word, then four columns.
 use borrow.Author.Needs.{needs}
 use Rattle.text.specs.Lines.{headerText}
 use Rattle.text.proofs.Laws.{front, behind, then}

@@ -1,4 +1,4 @@
--- `put_line` meets its contract: five columns, one behind the other. Assumes nothing.
+-- `put_line` meets its contract: five columns, one behind the other.
 use borrow.Author.Needs.{needs}
 use Rattle.meaning.specs.Listing.{rowLine}
 use Rattle.text.specs.Lines.{lineText}

@@ -1,4 +1,4 @@
--- `put_refusal` meets its contract: a word of eight bytes, then two columns. Assumes nothing.
+-- `put_refusal` meets its contract: a word of eight bytes, then two columns.
 use borrow.Author.Needs.{needs}
 use Rattle.meaning.specs.Listing.{refusalLine}
 use Rattle.text.proofs.Laws.{front, behind, then}

@@ -1,4 +1,4 @@
--- `width` meets its contract: of each range the text's exact length is known. Assumes nothing.
+-- `width` meets its contract: of each range the text's exact length is known.
 use mathlib.Core.Path.{_≡_, sym, ap}
 use Prim.Native.Nat.{ℕ, suc, _<_, _≤_, _^_}
 use native.Mathlib.Omega.{arith}

@@ -1,5 +1,5 @@
 -- `put_all` and `put_one` meet their contracts: they call each other, with the depth rising, which is at most 9. The loop's
--- invariant: whatever writes the lines that are left has written them all. Assumes nothing.
+-- invariant: whatever writes the lines that are left has written them all.
 use mathlib.Core.Path.{refl}
 use Prim.Native.Nat.{ℕ, _+_, _*_, _-_, _<_}
 use native.Mathlib.Omega.{arith}

@@ -1,4 +1,4 @@
--- `put_listing` meets its contract: the header line, the rows, the last line. Assumes nothing.
+-- `put_listing` meets its contract: the header line, the rows, the last line.
 use borrow.Author.Needs.{needs}
 use Rattle.listing.proofs.Listings.{header-room, rows-due, end-room, all-written}
 use Rattle.listing.proofs.whole.put_listing.Statement.{statement}

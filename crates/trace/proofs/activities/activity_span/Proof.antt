@@ -1,5 +1,5 @@
 -- `activities::activity_span` meets its contract.
-use mathlib.Core.Path.{_≡_, ap, _∙_}
+use mathlib.Core.Path.{ap, _∙_}
 use denote.Ref.{now}
 use Rattle.meaning.specs.Trace.{readTrace}
 use Rattle.meaning.specs.Activity.{activityGroup}

@@ -1,5 +1,5 @@
 -- `composition::compose` meets its contract: the three tests are the meaning's, and only behind them is anything written.
-use mathlib.Core.Path.{_≡_, sym, ap, _∙_}
+use mathlib.Core.Path.{sym, ap, _∙_}
 use native.Mathlib.Omega.{arith}
 use borrow.Author.Tests.{not-true, not-false}
 use Rattle.meaning.specs.Answer.{accepted}

@@ -1,5 +1,5 @@
 -- `composition::put_four` meets its contract: four numbers one behind the other.
-use mathlib.Core.Path.{_≡_, _∙_}
+use mathlib.Core.Path.{_∙_}
 use Rattle.trace.proofs.Composing.{four-words}
 use borrow.Author.Needs.{needs}
 use Rattle.trace.proofs.composition.put_four.Statement.{statement}

@@ -1,5 +1,5 @@
 -- `decisions::arrive_by` meets its contract: the meaning makes the same two tests.
-use mathlib.Core.Path.{_≡_, refl, sym, _∙_}
+use mathlib.Core.Path.{refl, sym, _∙_}
 use Rattle.meaning.specs.Decision.{unrecognised, deliverYes, arriveBy}
 use borrow.Author.Needs.{needs}
 use Rattle.trace.proofs.decisions.arrive_by.Statement.{statement}

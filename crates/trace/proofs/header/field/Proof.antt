@@ -1,5 +1,5 @@
 -- `header::field` meets its contract: the table keeps its rule, and a field of a header is an entry of the table.
-use mathlib.Core.Path.{_≡_, refl}
+use mathlib.Core.Path.{refl}
 use mathlib.Core.List.{List, [], _∷_}
 use Prim.Native.Nat.{ℕ}
 use native.Mathlib.Omega.{arith}

@@ -1,5 +1,5 @@
 -- `location::trace_of` meets its contract: the tests are Read's, in its order.
-use mathlib.Core.Path.{_≡_, refl, sym, ap, _∙_}
+use mathlib.Core.Path.{_≡_, sym, ap, _∙_}
 use mathlib.Core.Bool.{Bool, true, false}
 use native.Mathlib.Omega.{arith}
 use borrow.Author.Tests.{not-true, not-false}
@@ -9,7 +9,8 @@ use Rattle.meaning.specs.Trace.{sheetOk}
 use Rattle.meaning.proofs.Scans.{Sized, sized, header-part, scan-unsized, scan-unheaded}
 use Rattle.pcf.specs.Tallies.{endedOf}
 use Rattle.trace.specs.Composes.{termsOf}
-use Rattle.trace.proofs.Locating.{trace-unsheeted, trace-unscanned, trace-halt, trace-left, trace-whole, route-behind}
+use Rattle.trace.specs.Groups.{surveyOf}
+use Rattle.trace.proofs.Locating.{trace-unsheeted, trace-unscanned, Begun, trace-halt, trace-left, trace-whole, route-behind}
 use borrow.Author.Needs.{needs}
 use Rattle.trace.proofs.location.trace_of.Statement.{statement}
 use Rattle.trace.proofs.location.trace_of.Tie as tie
@@ -25,6 +26,17 @@ measured c = sym (c .before .length-ok .ensures) ∙ not-false _ (c .if2 .left)
 -- the header is as the test says
 header : (c : tie.After-header-ok) (b : Bool) → c .header-ok .result ≡ b → headerOk (partOf (now (c .before .before .before .before .before .before .before .args .msg)) (c .before .before .before .before .before .before .before .args .len)) ≡ b
 header c b e = header-part (now (c .before .before .before .before .before .before .before .args .msg)) (c .before .before .before .before .before .before .before .args .len) (sized _ _ (measured (c .before .before)) .least) ∙ sym (c .header-ok .ensures) ∙ e
+
+-- the survey, and what the tests before it have shown
+begun : (c : tie.After-survey)
+    → Begun (termsOf (c .before .before .before .before .before .before .before .before .before .args .sheet)) (now (c .before .before .before .before .before .before .before .before .before .args .msg)) (c .before .before .before .before .before .before .before .before .before .args .len) (c .before .before .before .before .before .before .before .before .before .args .n) (c .before .before .before .number-at .result) (surveyOf (c .survey .result))
+begun c = record {
+  ok = sheeted (c .before .before .before .before .before .before);
+  sized = measured (c .before .before .before .before);
+  header = header (c .before .before) true (not-false _ (c .before .if3 .left));
+  read = c .before .before .before .number-at .ensures;
+  surveys = c .survey .ensures;
+}
 
 returns : tie.Need-returns
 returns c =
@@ -53,32 +65,26 @@ survey-requires : tie.Need-survey-requires
 survey-requires c κs = (sized _ _ (measured (c .before .before .before)) .there, sized _ _ (measured (c .before .before .before)) .most)
 
 returns-4 : tie.Need-returns-4
-returns-4 c =
-    let a = c .before .before .before .before .before .before .before .before .before .before .before .before .before .before .args in
-    c .stopped5 .ensures ∙ trace-left (termsOf (a .sheet)) (now (a .msg)) (a .len) (a .n) (sheeted (c .before .before .before .before .before .before .before .before .before .before .before)) (measured (c .before .before .before .before .before .before .before .before .before)) (header (c .before .before .before .before .before .before .before) true (not-false _ (c .before .before .before .before .before .before .if3 .left))) _ (c .before .before .before .before .before .before .before .before .number-at .ensures) _ (c .before .before .before .before .before .survey .ensures) _ (ap endedOf (c .before .before .before .ended2 .given .1)) (c .before .if4 .taken)
+returns-4 c = c .stopped5 .ensures ∙ trace-left (begun (c .before .before .before .before .before)) _ (ap endedOf (c .before .before .before .ended2 .given .1)) (c .before .if4 .taken)
 
 judge-requires : tie.Need-judge-requires
 judge-requires c κs =
-    let a = c .before .before .before .before .before .before .before .before .before .before .before .before .before .before .before .args in
-    let z = sized _ _ (measured (c .before .before .before .before .before .before .before .before .before .before)) in
+    let s = begun (c .before .before .before .before .before .before) in
+    let z = sized _ _ (s .sized) in
     record {
       there = z .there;
       most = z .most;
       least = z .least;
-      sound = header (c .before .before .before .before .before .before .before .before) true (not-false _ (c .before .before .before .before .before .before .before .if3 .left));
-      read = c .before .before .before .before .before .before .before .before .before .number-at .ensures;
-      behind = route-behind (termsOf (a .sheet)) (now (a .msg)) (a .len) (a .n) (sheeted (c .before .before .before .before .before .before .before .before .before .before .before .before)) (measured (c .before .before .before .before .before .before .before .before .before .before)) (header (c .before .before .before .before .before .before .before .before) true (not-false _ (c .before .before .before .before .before .before .before .if3 .left))) _ (c .before .before .before .before .before .before .before .before .before .number-at .ensures) _ (c .before .before .before .before .before .before .survey .ensures) _ (ap endedOf (c .before .before .before .before .ended2 .given .1)) (c .before .before .if4 .left);
+      sound = s .header;
+      read = s .read;
+      behind = route-behind s _ (ap endedOf (c .before .before .before .before .ended2 .given .1)) (c .before .before .if4 .left);
     }
 
 returns-5 : tie.Need-returns-5
-returns-5 c =
-    let a = c .before .before .before .before .before .before .before .before .before .before .before .before .before .args in
-    c .stopped4 .ensures ∙ trace-halt (termsOf (a .sheet)) (now (a .msg)) (a .len) (a .n) (sheeted (c .before .before .before .before .before .before .before .before .before .before)) (measured (c .before .before .before .before .before .before .before .before)) (header (c .before .before .before .before .before .before) true (not-false _ (c .before .before .before .before .before .if3 .left))) _ (c .before .before .before .before .before .before .before .number-at .ensures) _ (c .before .before .before .before .survey .ensures) _ _ (ap endedOf (c .before .before .ended .given .1))
+returns-5 c = c .stopped4 .ensures ∙ trace-halt (begun (c .before .before .before .before)) _ _ (ap endedOf (c .before .before .ended .given .1))
 
 returns-6 : tie.Need-returns-6
-returns-6 c =
-    let a = c .before .before .before .before .before .before .before .before .before .before .before .before .before .before .before .before .args in
-    c .judge .ensures ∙ trace-whole (termsOf (a .sheet)) (now (a .msg)) (a .len) (a .n) (sheeted (c .before .before .before .before .before .before .before .before .before .before .before .before .before)) (measured (c .before .before .before .before .before .before .before .before .before .before .before)) (header (c .before .before .before .before .before .before .before .before .before) true (not-false _ (c .before .before .before .before .before .before .before .before .if3 .left))) _ (c .before .before .before .before .before .before .before .before .before .before .number-at .ensures) _ (c .before .before .before .before .before .before .before .survey .ensures) _ (ap endedOf (c .before .before .before .before .before .ended2 .given .1)) (c .before .before .before .if4 .left)
+returns-6 c = c .judge .ensures ∙ trace-whole (begun (c .before .before .before .before .before .before .before)) _ (ap endedOf (c .before .before .before .before .before .ended2 .given .1)) (c .before .before .before .if4 .left)
 
 pub trace-of-spec : {M : Type 1} → statement M
 trace-of-spec =

@@ -1,9 +1,8 @@
 -- `members::all_found` meets its contract. The invariant: the marks from `k` on tell as much as all of them.
 use mathlib.Core.Path.{_≡_, refl, sym, _∙_}
-use Prim.Native.Nat.{ℕ, _+_, _-_, _≤_, _<_}
+use Prim.Native.Nat.{ℕ, _-_, _≤_}
 use native.Mathlib.Omega.{arith}
-use borrow.Author.Needs.{needs}
-use lib.ListN.{length, drop}
+use lib.ListN.{drop}
 use Rattle.trace.specs.Marks.{allFound}
 use Rattle.trace.proofs.Marking.{found-none, found-stop, found-next}
 use Rattle.trace.proofs.members.all_found.Statement.{statement}

@@ -2,12 +2,11 @@
 -- from here on are sound.
 use mathlib.Core.Path.{_≡_, refl, sym, ap, _∙_}
 use mathlib.Core.Bool.{true}
-use Prim.Native.Nat.{ℕ, _+_, _-_, _≤_, _<_}
+use Prim.Native.Nat.{ℕ, _+_, _-_, _≤_}
 use native.Mathlib.Omega.{arith}
 use borrow.Author.Needs.{needs}
 use borrow.Author.Tests.{eqb-true}
 use denote.Ref.{now}
-use lib.Dec.{eqb}
 use Rattle.meaning.specs.Bytes.{num}
 use Rattle.meaning.specs.Walk.{walk}
 use Rattle.meaning.specs.Message.{partOf}

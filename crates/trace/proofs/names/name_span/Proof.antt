@@ -1,5 +1,5 @@
 -- `names::name_span` meets its contract: the first string of the Activity group, trimmed.
-use mathlib.Core.Path.{_≡_, sym, ap, _∙_}
+use mathlib.Core.Path.{sym, ap, _∙_}
 use Prim.Native.Nat.{ℕ}
 use denote.Ref.{now}
 use Rattle.meaning.specs.Activity.{inMessage}

@@ -3,7 +3,9 @@ use native.Mathlib.Omega.{arith}
 use lib.ListN.{replicate}
 use Rattle.meaning.proofs.Structures.{RowAt, row-at}
 use Rattle.meaning.proofs.Members.{members-shallow}
-use Rattle.trace.proofs.Turns.{is-row, is-refusal, ended-as, zeros-low, pass-refused, pass-halt, pass-over, pass-plain}
+use Rattle.pcf.proofs.Answers.{is-row, is-refusal}
+use Rattle.pcf.proofs.Counting.{zeros-low}
+use Rattle.trace.proofs.Turns.{ended-as, pass-refused, pass-halt, pass-over, pass-plain}
 use borrow.Author.Needs.{needs}
 use Rattle.trace.proofs.passing.pass.Statement.{statement}
 use Rattle.trace.proofs.passing.pass.Tie as tie

@@ -1,5 +1,5 @@
 -- `ranges::in_range` meets its contract: the same tests, taken together in another order.
-use mathlib.Core.Path.{_≡_, ap}
+use mathlib.Core.Path.{ap}
 use mathlib.Core.Bool.{Bool, _&&_}
 use borrow.Author.Needs.{needs}
 use Rattle.meaning.specs.Names.{Detail, RecordedActivities, UnrecordedActivities, DiscontinuityCount, MaxActivities}

@@ -1,5 +1,5 @@
 -- `reading::arrive` meets its contract: Read's refusals, then the decision by the values.
-use mathlib.Core.Path.{_≡_, sym, ap, _∙_}
+use mathlib.Core.Path.{sym, ap, _∙_}
 use mathlib.Core.List.{List}
 use Prim.Native.Nat.{ℕ}
 use denote.Ref.{now}

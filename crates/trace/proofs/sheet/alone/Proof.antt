@@ -1,9 +1,9 @@
 -- `sheet::alone` meets its contract. The invariant: what is behind `k` tells as much as what is behind `i`.
 use mathlib.Core.Path.{_≡_, refl, sym, _∙_}
-use Prim.Native.Nat.{ℕ, _+_, _-_, _≤_, _<_}
+use Prim.Native.Nat.{ℕ, _+_, _-_, _≤_}
 use native.Mathlib.Omega.{arith}
 use borrow.Author.Needs.{needs}
-use lib.ListN.{length, getD, drop}
+use lib.ListN.{drop}
 use Rattle.meaning.specs.Trace.{absent}
 use Rattle.trace.proofs.Sheets.{absent-none, absent-hit, absent-next}
 use Rattle.trace.proofs.sheet.alone.Statement.{statement}

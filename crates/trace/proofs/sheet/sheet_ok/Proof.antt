@@ -1,13 +1,12 @@
 -- `sheet::sheet_ok` meets its contract. The invariant: the numbers from `i` on tell as much as all of them.
-use mathlib.Core.Path.{_≡_, refl, sym, ap, _∙_}
-use mathlib.Core.Bool.{Bool, _&&_}
-use Prim.Native.Nat.{ℕ, _+_, _-_, _≤_, _<_}
+use mathlib.Core.Path.{_≡_, refl, sym, _∙_}
+use mathlib.Core.Bool.{Bool}
+use Prim.Native.Nat.{ℕ, _-_, _≤_}
 use native.Mathlib.Omega.{arith}
-use borrow.Author.Needs.{needs}
 use borrow.Author.Tests.{le-leb, lt-leb, lt-ltb, le-ltb, not-true, not-false}
-use lib.ListN.{length, getD, drop}
+use lib.ListN.{drop}
 use Rattle.meaning.specs.Names.{twoTo31}
-use Rattle.meaning.specs.Trace.{absent, different, sheetOk}
+use Rattle.meaning.specs.Trace.{different, sheetOk}
 use Rattle.trace.proofs.Sheets.{sheet-ok-as, different-none, different-next}
 use Rattle.trace.proofs.sheet.sheet_ok.Statement.{statement}
 use Rattle.trace.proofs.sheet.sheet_ok.Tie as tie
