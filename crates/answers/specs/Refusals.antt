@@ -1,6 +1,6 @@
 -- Document 01's number and place for each refusal, and whether a reply is owed.
 use Prim.Native.Nat.{ℕ}
-use mathlib.Core.Bool.{Bool, true, false}
+use mathlib.Core.Bool.{Bool, false}
 use Rattle.meaning.specs.Names.{badLength, badHeader, badStructure, tooDeep, leftOver, noTraceHeader, noTraceRoute, badAttribute, badGroup, «MQFB_MAX_ACTIVITIES», counterFull, noRoom, reportTooShort, «MQFB_UNSUPPORTED_DELIVERY», «MQFB_UNSUPPORTED_FORWARDING», «MQFB_NOT_FORWARDED», badSheet}
 use Rattle.meaning.specs.Answer.{Result, refused}
 use Rattle.answers.specs.declared.Refusal.{Refusal}

@@ -1,21 +1,20 @@
 -- An event, by what was found out one after the other; and what may be written once it is decided.
-use mathlib.Core.Path.{_≡_, refl, sym, ap, _∙_}
+use mathlib.Core.Path.{_≡_, refl, ap, _∙_}
 use mathlib.Core.Bool.{Bool, true, false, cond}
 use mathlib.Core.List.{List, []}
-use Prim.Native.Nat.{ℕ, _+_, _*_, _≤_, _<_}
+use Prim.Native.Nat.{ℕ, _+_, _≤_}
 use native.Mathlib.Omega.{arith}
 use lib.ListN.{length}
-use Rattle.meaning.specs.Bytes.{Part, number, num, bytes4, splice, store}
-use Rattle.meaning.specs.Names.{mostCount}
-use Rattle.meaning.specs.Answer.{Result, accepted, refused}
-use Rattle.meaning.specs.Message.{partOf, parameterCount}
+use Rattle.meaning.specs.Bytes.{bytes4, splice, store}
+use Rattle.meaning.specs.Answer.{accepted, refused}
+use Rattle.meaning.specs.Message.{partOf}
 use Rattle.meaning.specs.Trace.{Terms, Trace, value, valuePlace, readTrace}
-use Rattle.meaning.specs.Event.{State, Event, discontinuity, activity, Answer, Done, done, denied, Outcome, soundEvent, groupOf, Plan, planOf, decide, grownIf, reportedIf, applied, decided, performed, leaving, onTrace, event}
+use Rattle.meaning.specs.Event.{State, Event, discontinuity, activity, Answer, Done, done, denied, soundEvent, groupOf, Plan, planOf, decide, grownIf, reportedIf, applied, decided, performed, leaving, onTrace, event}
 use Rattle.meaning.specs.Demand3.{isDone}
 use Rattle.meaning.proofs.Parts.{num-part}
 use Rattle.meaning.proofs.Sound.{Sound, sound}
 use Rattle.meaning.proofs.Changed.{lies, count-le}
-use Rattle.meaning.proofs.Applied.{Group, group, value-at}
+use Rattle.meaning.proofs.Applied.{group, value-at}
 use Rattle.meaning.proofs.Plans.{PlanOk, plan-ok, Allowed, allowed}
 use Rattle.meaning.proofs.Accepted.{decide-done}
 use Rattle.event.specs.Written.{Writable, Ready, Countable}

@@ -7,7 +7,7 @@ use lib.Dec.{eqb}
 use Rattle.meaning.specs.Names.{Detail, Accumulate, «MQROUTE_ACCUMULATE_NONE»}
 use Rattle.meaning.specs.Trace.{value}
 use Rattle.meaning.specs.Event.{unrecordedForLevel, reported, accumulated, recordedIn, planOf}
-use Rattle.event.specs.Events.{levelOf, settingsOf, activityOf, counterOf, planned}
+use Rattle.event.specs.Events.{levelOf, activityOf, counterOf, planned}
 use Rattle.event.specs.declared.plan.Level.{Level}
 use Rattle.event.specs.declared.plan.Settings.{Settings}
 use Rattle.event.specs.declared.plan.Counter.{Counter}

@@ -1,15 +1,15 @@
 -- The answer to an event, by the tests that come first.
-use mathlib.Core.Path.{_≡_, refl, sym, ap, _∙_}
+use mathlib.Core.Path.{_≡_, refl}
 use mathlib.Core.Bool.{Bool, true, false, cond, not, _&&_}
 use mathlib.Core.List.{List}
 use Prim.Native.Nat.{ℕ, _+_, _≤_, _<_}
 use native.Mathlib.Omega.{arith}
 use lib.ListN.{getD}
-use lib.Dec.{leb, ltb, eqb}
+use lib.Dec.{leb, ltb}
 use borrow.Author.Tests.{le-leb, lt-leb, lt-ltb, le-ltb, eq-eqb, ne-eqb, leb-true, leb-false}
 use Rattle.meaning.specs.Names.{mostCount, mostBytes}
 use Rattle.meaning.specs.Trace.{value}
-use Rattle.meaning.specs.Event.{Answer, done, denied, Plan, sum, overLimit, replyOwed, reportLength, doneBy, decide}
+use Rattle.meaning.specs.Event.{done, denied, Plan, sum, overLimit, replyOwed, reportLength, doneBy, decide}
 
 -- not at most is above
 pub not-leb : (a b : ℕ) → ltb b a ≡ not (leb a b)

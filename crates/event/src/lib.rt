@@ -1,4 +1,9 @@
 // Events on a trace: a discontinuity or an activity is counted, appended and reported, or refused with nothing changed.
+//
+// Demand 3 holds of these two entries. The contract of each is one equation: the answer, the message buffer, the new length
+// and the report buffer are those of the meaning's `event` on what the entry was given. The theorem `demand3` is about runs
+// of that same `event`, so a caller that hands message, length and report buffer on from call to call gets, call for call,
+// the answers and states that the theorem speaks of.
 mod entered;
 mod group;
 mod plan;

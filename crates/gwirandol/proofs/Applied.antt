@@ -4,13 +4,12 @@ use mathlib.Core.Bool.{Bool, true, false, cond, not, _&&_}
 use mathlib.Core.List.{List, [], _∷_}
 use Prim.Native.Nat.{ℕ, _+_, _*_, _≤_}
 use native.Mathlib.Omega.{arith}
-use lib.ListN.{length}
 use lib.Dec.{leb, eqb}
 use borrow.Author.Tests.{leb-true}
 use Rattle.meaning.specs.Names.{mostBytes, mostCount}
 use Rattle.meaning.specs.Answer.{Result, accepted, refused, when, unless}
 use Rattle.meaning.specs.Trace.{Trace, value, readTrace}
-use Rattle.meaning.specs.Event.{Level as Rank, Event, activity, Answer, done, denied, Plan, State, Outcome, overLimit, replyOwed, reportLength, doneBy, decide, soundEvent, groupOf, planOf, performed, decided, leaving, onRead, onTrace, event}
+use Rattle.meaning.specs.Event.{Level as Rank, Event, activity, Answer, done, denied, Plan, State, Outcome, overLimit, reportLength, decide, soundEvent, performed, decided, leaving, onRead, onTrace, event}
 use Rattle.meaning.proofs.Tests.{clash}
 use Rattle.meaning.proofs.Sound.{sound}
 use Rattle.meaning.proofs.Outcomes.{read-refused}

@@ -2,7 +2,6 @@
 use mathlib.Core.Path.{_≡_, refl, sym, ap, _∙_}
 use mathlib.Core.List.{List}
 use Prim.Native.Nat.{ℕ, _+_, _*_, _≤_}
-use native.Mathlib.Omega.{arith}
 use Rattle.meaning.specs.Answer.{Result, accepted, refused}
 use Rattle.meaning.specs.Trace.{read}
 use Rattle.answers.specs.Refusals.{numberOf, placeOf, refusal}

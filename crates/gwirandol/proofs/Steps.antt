@@ -1,14 +1,14 @@
 -- One structure for C: the refusal's number and nothing written, or the row.
-use mathlib.Core.Path.{_≡_, refl, sym, ap, _∙_}
+use mathlib.Core.Path.{_≡_, refl}
 use mathlib.Core.List.{List, [], _∷_}
 use Prim.Native.Nat.{ℕ}
-use Rattle.meaning.specs.Answer.{Result, accepted, refused}
+use Rattle.meaning.specs.Answer.{accepted}
 use Rattle.meaning.specs.Message.{step}
 use Rattle.answers.specs.Refusals.{numberOf, refusal}
 use Rattle.answers.specs.declared.Refusal.{Refusal}
 use Rattle.pcf.specs.Rows.{rowOf}
 use Rattle.pcf.specs.declared.structure.Row.{Row}
-use Rattle.gwirandol.specs.Codes.{numberIn, rowIn, Steps}
+use Rattle.gwirandol.specs.Codes.{Steps}
 
 pub steps-refused : (buf : List ℕ) (len place depth : ℕ) (before : List ℕ) (n : ℕ) (r : Refusal) → step buf len place depth ≡ refusal r → n ≡ numberOf r
     → Steps buf len place depth before n before

@@ -3,7 +3,7 @@ use Prim.Native.Nat.{ℕ}
 use mathlib.Core.Path.{_≡_}
 use mathlib.Core.Bool.{Bool, true, false}
 use mathlib.Core.List.{List, [], _∷_}
-use Rattle.meaning.specs.Answer.{Result, accepted, refused, andThen}
+use Rattle.meaning.specs.Answer.{Result, accepted, refused}
 use Rattle.meaning.specs.Trace.{Terms, read}
 use Rattle.meaning.specs.Decision.{Decision as Meant, forward, putLocally, withhold}
 use Rattle.meaning.specs.Activity.{activityGroup, Name, inMessage, substitute}

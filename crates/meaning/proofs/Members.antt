@@ -1,13 +1,13 @@
 -- Groups and their members: only a group has members, and no group is deeper than 8.
 use mathlib.Core.Path.{_≡_, refl, sym, ap, _∙_}
-use mathlib.Core.Bool.{Bool, true, false, cond, _&&_}
+use mathlib.Core.Bool.{Bool, true, false, cond}
 use Prim.Native.Nat.{ℕ, _+_, _≤_, _<_}
 use native.Mathlib.Omega.{arith}
-use lib.Dec.{ltb, eqb}
+use lib.Dec.{eqb}
 use borrow.Author.Tests.{ltb-false, eq-eqb, eqb-true}
 use Rattle.meaning.specs.Bytes.{Part, num, word}
 use Rattle.meaning.specs.Names.{«MQCFT_GROUP», mostDepth}
-use Rattle.meaning.specs.Answer.{Result, accepted}
+use Rattle.meaning.specs.Answer.{accepted}
 use Rattle.meaning.specs.Structure.{Row, structureAt}
 use Rattle.meaning.proofs.Structures.{Judged, judge-accepted}
 

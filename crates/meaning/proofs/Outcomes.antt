@@ -1,5 +1,5 @@
 -- How a scan or a read ends: the rows that a check has counted, and that a refusal's place lies in the message.
-use mathlib.Core.Path.{sym, _≡_, refl, ap, _∙_}
+use mathlib.Core.Path.{sym, _≡_, refl, _∙_}
 use mathlib.Core.Bool.{Bool, true, false, _&&_}
 use mathlib.Core.Logic.{_⊎_, inl, inr}
 use mathlib.Core.List.{List, _++_}
@@ -7,17 +7,16 @@ use Prim.Native.Nat.{ℕ, zero, suc, _+_, _%_, _≤_}
 use native.Mathlib.Omega.{arith}
 use lib.ListN.{length}
 use lib.Dec.{leb, eqb, ltb}
-use borrow.Author.Tests.{eqb-true}
 use Rattle.meaning.specs.Bytes.{Part}
 use Rattle.meaning.specs.Answer.{Result, accepted, refused, andThen, unless}
 use Rattle.meaning.specs.Structure.{Row, lengthRule, rowOf, judged, judge, structureAt}
 use Rattle.meaning.specs.Walk.{Walked, walked, followedBy, ahead, enter, walkFuel, walk}
 use Rattle.meaning.specs.Message.{headerOk, lengthOk, partOf, parameterCount, firstPlace, closed, rowsOf, scan, check}
 use Rattle.meaning.specs.Trace.{Terms, sheetOk, traceHeader, traceRoutes, directMembers, eachOnce, placesOf, valuesAt, inRange, readMembers, readRows, readTrace}
-use Rattle.meaning.proofs.Tests.{clash, unless-accepted, then-accepted}
+use Rattle.meaning.proofs.Tests.{clash, then-accepted}
 use Rattle.meaning.proofs.Structures.{row-at}
-use Rattle.meaning.proofs.Walks.{Walks, walks, walks-fuel}
-use Rattle.meaning.proofs.Scans.{Sized, sized}
+use Rattle.meaning.proofs.Walks.{walks-fuel}
+use Rattle.meaning.proofs.Scans.{sized}
 use Rattle.meaning.proofs.Lines.{walks-end}
 
 -- the number of structures that the check gives

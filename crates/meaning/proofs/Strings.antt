@@ -1,22 +1,22 @@
 -- A string: its data lie in it. And names: a byte more at the end of one.
 use mathlib.Core.Path.{_≡_, refl, sym, ap, _∙_}
-use mathlib.Core.Bool.{Bool, true, false, cond, _&&_}
+use mathlib.Core.Bool.{Bool, true, false}
 use mathlib.Core.List.{List, [], _∷_, _++_}
-use Prim.Native.Nat.{ℕ, zero, suc, _+_, _-_, _≤_, _<_}
+use Prim.Native.Nat.{ℕ, suc, _+_, _-_, _≤_, _<_}
 use native.Mathlib.Omega.{arith}
 use lib.ListN.{length, getD, take, length-append}
-use lib.Seq.{take-suc, take-at}
-use lib.Dec.{leb, eqb}
-use borrow.Author.Tests.{leb-true, le-leb, ne-eqb}
+use lib.Seq.{take-suc}
+use lib.Dec.{leb}
+use borrow.Author.Tests.{leb-true, le-leb}
 use Rattle.meaning.specs.Bytes.{Part, num, word}
 use Rattle.meaning.specs.Names.{«MQCFT_STRING»}
 use Rattle.meaning.specs.Answer.{accepted}
 use Rattle.meaning.specs.Structure.{Row, small, lengthRule, structureAt}
 use Rattle.meaning.specs.Activity.{isPad, trimmedIf, trimmed}
 use Rattle.meaning.proofs.Tests.{and-true}
-use Rattle.meaning.proofs.Structures.{Judged, judge-accepted, RowAt, row-at}
+use Rattle.meaning.proofs.Structures.{judge-accepted, row-at}
 use Rattle.meaning.proofs.Walks.{Walks, none, more, In, here, there, in-nil, in-cases}
-use Rattle.meaning.proofs.Trimmed.{Trim, trim}
+use Rattle.meaning.proofs.Trimmed.{trim}
 
 -- THE DATA of a string end where the string does, or before
 string-rule : (t n a b c : ℕ) → t ≡ «MQCFT_STRING» → lengthRule t n a b c ≡ true → 20 + b ≤ n

@@ -1,5 +1,5 @@
 -- Counting rows: the counts of the types, their sum, and how many rows there is room for.
-use mathlib.Core.Path.{_≡_, refl, sym, ap, _∙_}
+use mathlib.Core.Path.{_≡_, refl, _∙_}
 use mathlib.Core.Bool.{Bool, true, false, cond}
 use mathlib.Core.List.{List, [], _∷_, _++_, sum}
 use Prim.Native.Nat.{ℕ, zero, suc, _+_, _*_, _≤_, _<_}
@@ -10,7 +10,7 @@ use borrow.Author.Tests.{eqb-true, eqb-false, ne-eqb}
 use Rattle.meaning.specs.Bytes.{Part}
 use Rattle.meaning.specs.Structure.{Row}
 use Rattle.meaning.specs.Message.{countOf, countsFrom}
-use Rattle.meaning.proofs.Structures.{RowAt, row-at}
+use Rattle.meaning.proofs.Structures.{row-at}
 use Rattle.meaning.proofs.Walks.{Walks, none, more, In, here, there, tiles, tiles-row}
 
 pub count-append : (k : ℕ) (xs ys : List Row) → countOf k (xs ++ ys) ≡ countOf k xs + countOf k ys

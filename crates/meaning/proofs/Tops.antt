@@ -1,8 +1,8 @@
 -- Top-level structures and direct members of a walk, one after the other, and what each top-level structure is.
-use mathlib.Core.Path.{_≡_, refl, sym, ap, _∙_, subst}
-use mathlib.Core.Bool.{Bool, true, false, cond}
-use mathlib.Core.List.{List, [], _∷_, _++_, append-nil}
-use Prim.Native.Nat.{ℕ, zero, suc, _+_, _*_, _≤_, _<_}
+use mathlib.Core.Path.{_≡_, refl, sym, ap}
+use mathlib.Core.Bool.{Bool, true, false}
+use mathlib.Core.List.{List, [], _∷_, _++_}
+use Prim.Native.Nat.{ℕ, zero, suc, _+_, _≤_, _<_}
 use native.Mathlib.Nat.{not-suc-le-zero, le-of-suc-le-suc}
 use native.Mathlib.Omega.{arith}
 use lib.ListN.{length, getD}
@@ -11,9 +11,9 @@ use borrow.Author.Tests.{eq-eqb, ne-eqb}
 use Rattle.meaning.specs.Bytes.{Part}
 use Rattle.meaning.specs.Answer.{accepted, consIf}
 use Rattle.meaning.specs.Structure.{Row, structureAt}
-use Rattle.meaning.specs.Trace.{Top, isTop, isDirect, untilTop, tops, isGroup, groupsIn, groups, directIn}
+use Rattle.meaning.specs.Trace.{Top, untilTop, tops, isGroup, groupsIn, directIn}
 use Rattle.meaning.specs.Activity.{sizeOf}
-use Rattle.meaning.proofs.Structures.{RowAt, row-at}
+use Rattle.meaning.proofs.Structures.{row-at}
 use Rattle.meaning.proofs.Walks.{Walks, none, more, walks-le, walks-depth, In, here, there, Tiles, tiles}
 use Rattle.meaning.proofs.Spans.{tiles-size}
 

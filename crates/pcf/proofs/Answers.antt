@@ -1,6 +1,5 @@
 -- What is told of the meaning's answer by the case of an enum that the code has in hand.
 use mathlib.Core.Path.{_≡_, sym, ap, _∙_}
-use Prim.Native.Nat.{ℕ}
 use Rattle.meaning.specs.Answer.{Result, accepted}
 use Rattle.meaning.specs.Structure.{Row as Structure}
 use Rattle.answers.specs.Refusals.{refusal}

@@ -5,10 +5,10 @@ use mathlib.Core.List.{List}
 use Prim.Native.Nat.{ℕ, _+_, _%_, _≤_, _<_}
 use native.Mathlib.Omega.{arith}
 use lib.Dec.{leb, ltb, eqb}
-use borrow.Author.Tests.{lt-leb, le-leb, eq-eqb, ne-eqb, leb-true}
+use borrow.Author.Tests.{le-leb, eq-eqb, ne-eqb, leb-true}
 use Rattle.meaning.specs.Bytes.{number, num, word}
 use Rattle.meaning.specs.Names.{«MQCFT_GROUP», mostDepth}
-use Rattle.meaning.specs.Structure.{Row, lengthRule, judged, judge, structureAt}
+use Rattle.meaning.specs.Structure.{Row, judged, judge, structureAt}
 use Rattle.meaning.specs.Message.{partOf}
 use Rattle.meaning.proofs.Tests.{and-true, is-false}
 use Rattle.meaning.proofs.Structures.{rule-16}

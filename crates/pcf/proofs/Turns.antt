@@ -1,17 +1,17 @@
 -- One turn of the walk, said of what the walk comes to.
-use mathlib.Core.Path.{_≡_, refl, sym, ap, _∙_}
+use mathlib.Core.Path.{_≡_, refl, ap}
 use mathlib.Core.List.{List, [], _∷_, _++_}
-use Prim.Native.Nat.{ℕ, zero, suc, _+_, _-_, _≤_, _<_}
+use Prim.Native.Nat.{ℕ, zero, suc, _+_, _-_, _<_}
 use native.Mathlib.Numerals.{add-one}
 use native.Mathlib.Omega.{arith}
-use lib.ListN.{length, replicate}
+use lib.ListN.{replicate}
 use Rattle.meaning.specs.Bytes.{Part}
 use Rattle.meaning.specs.Answer.{Result, accepted, refused, andThen}
 use Rattle.meaning.specs.Structure.{Row, structureAt}
-use Rattle.meaning.specs.Walk.{Walked, walked, followedBy, ahead, enter, walk}
+use Rattle.meaning.specs.Walk.{Walked, walked, ahead, enter, walk}
 use Rattle.meaning.specs.Message.{types}
 use Rattle.meaning.proofs.Tests.{clash}
-use Rattle.meaning.proofs.Structures.{RowAt, row-at}
+use Rattle.meaning.proofs.Structures.{row-at}
 use Rattle.meaning.proofs.Walks.{walks}
 use Rattle.meaning.proofs.Fuel.{walk-zero, walk-suc}
 use Rattle.meaning.proofs.Tallies.{rows-room}

@@ -10,15 +10,14 @@ use borrow.Author.Tests.{ltb-true, ltb-false}
 use Rattle.meaning.specs.Answer.{Result, accepted, refused, andThen}
 use Rattle.meaning.specs.Message.{partOf, parameterCount}
 use Rattle.meaning.specs.Names.{«MQGACF_ACTIVITY»}
-use Rattle.meaning.specs.Trace.{Terms, Trace, Top, activities, readTrace}
+use Rattle.meaning.specs.Trace.{Terms, Trace, activities, readTrace}
 use Rattle.meaning.specs.Activity.{Span, bytesIn, sizeOf, spanOf, noGroup, nthActivity, activityGroup}
 use Rattle.meaning.proofs.Tests.{clash}
 use Rattle.meaning.proofs.Sound.{sound}
-use Rattle.meaning.proofs.Tops.{TopAt}
 use Rattle.answers.specs.declared.Refusal.{Refusal}
 use Rattle.answers.specs.Refusals.{numberOf, placeOf, refusal}
 use Rattle.trace.specs.Groups.{groupOf, counted}
-use Rattle.trace.specs.Locations.{Done, done, answerOf, Attributes, located, locatedOf, Outcome, traced}
+use Rattle.trace.specs.Locations.{Done, done, answerOf, Attributes, located, locatedOf, traced}
 use Rattle.trace.specs.Readings.{Reading, reading, given, valuesOf}
 use Rattle.trace.specs.Activities.{spanIn}
 use Rattle.trace.specs.declared.activities.Span.{Span as Parts}

@@ -2,7 +2,7 @@
 use mathlib.Core.Path.{_≡_, refl, sym, ap, _∙_, subst}
 use mathlib.Core.Bool.{Bool, true, false, _&&_}
 use mathlib.Core.List.{List, [], _∷_, append-nil}
-use Prim.Native.Nat.{ℕ, _+_, _-_, _≤_, _<_}
+use Prim.Native.Nat.{ℕ, _+_, _≤_, _<_}
 use native.Mathlib.Omega.{arith}
 use lib.ListN.{length, getD, take}
 use lib.Dec.{leb, eqb}
@@ -17,14 +17,13 @@ use Rattle.meaning.specs.Trace.{Terms, Trace, sheetOk, traceFields, traceHeader
 use Rattle.meaning.specs.Activity.{noGroup}
 use Rattle.meaning.specs.Compose.{headerFields, traceHeaderFields}
 use Rattle.meaning.proofs.Tests.{clash, and-true, and-false}
-use Rattle.meaning.proofs.Structures.{RowAt}
 use Rattle.meaning.proofs.Scans.{scan-walk}
-use Rattle.meaning.proofs.Walks.{Walks, walks, walks-as, walk-of, In, in-nil, tiles, tiles-row}
+use Rattle.meaning.proofs.Walks.{Walks, walks, walks-as, walk-of, in-nil, tiles, tiles-row}
 use Rattle.meaning.proofs.Parts.{num-part}
 use Rattle.meaning.proofs.Tops.{tiles-from, TopAt, all-at, all-groups, tops-at}
 use Rattle.trace.specs.Headers.{fieldsOf, startsWith}
 use Rattle.trace.specs.Groups.{groupOf, counted, Surveyed, surveyed}
-use Rattle.trace.specs.Locations.{rowsIn, stop, found, attributesBy, attributesIn, judgedIn, Outcome, traced, Attributes, located}
+use Rattle.trace.specs.Locations.{rowsIn, stop, found, attributesBy, attributesIn, judgedIn, Outcome, traced, located}
 use Rattle.trace.specs.declared.groups.Group.{Group}
 use Rattle.trace.specs.declared.groups.Counted.{Counted}
 use Rattle.trace.specs.declared.header.Kind.the-variants.{Trace as trace}

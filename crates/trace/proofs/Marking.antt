@@ -16,8 +16,8 @@ use Rattle.meaning.specs.Walk.{Walked, walked, walk}
 use Rattle.meaning.specs.Message.{partOf}
 use Rattle.meaning.specs.Trace.{isDirect, directIn, named, oneInteger, eachOnce, placeOfFirst, placesOf, valueAt, valuesAt}
 use Rattle.meaning.proofs.Tests.{clash, and-true}
-use Rattle.meaning.proofs.Structures.{RowAt, row-at}
-use Rattle.meaning.proofs.Walks.{Walks, walks, walks-depth, In, here, there}
+use Rattle.meaning.proofs.Structures.{row-at}
+use Rattle.meaning.proofs.Walks.{walks, walks-depth, In, here, there}
 use Rattle.meaning.proofs.Fuel.{walk-zero}
 use Rattle.meaning.proofs.Parts.{num-part}
 use Rattle.meaning.proofs.Attributes.{getD-map, once-at}

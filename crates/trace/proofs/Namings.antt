@@ -17,11 +17,10 @@ use Rattle.meaning.specs.Message.{partOf, parameterCount}
 use Rattle.meaning.specs.Trace.{Terms, Trace, Top, activities, directIn, named, readTrace}
 use Rattle.meaning.specs.Activity.{Span, bytesIn, noGroup, nthActivity, strings, Name, inMessage, substitute, stringAt, trimmedAt, firstName, isPad, trimmed, nameOf}
 use Rattle.meaning.proofs.Tests.{clash}
-use Rattle.meaning.proofs.Structures.{RowAt, row-at}
-use Rattle.meaning.proofs.Walks.{walks, walk-of, In, here, there, in-nil}
+use Rattle.meaning.proofs.Structures.{row-at}
+use Rattle.meaning.proofs.Walks.{walks, walk-of, here, there, in-nil}
 use Rattle.meaning.proofs.Fuel.{walk-zero}
 use Rattle.meaning.proofs.Sound.{Sound, sound}
-use Rattle.meaning.proofs.Tops.{TopAt}
 use Rattle.meaning.proofs.Strings.{walks-data, trim-pad, trim-other, take-last, trim-le}
 use Rattle.trace.specs.Passing.{passed}
 use Rattle.trace.specs.Groups.{groupOf, counted}

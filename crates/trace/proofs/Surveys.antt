@@ -15,8 +15,8 @@ use Rattle.meaning.specs.Structure.{Row}
 use Rattle.meaning.specs.Walk.{Walked, walked, walk}
 use Rattle.meaning.specs.Trace.{Top, tops, isGroup, groupsIn, groups}
 use Rattle.meaning.specs.Activity.{sizeOf, noGroup}
-use Rattle.meaning.proofs.Structures.{RowAt, row-at}
-use Rattle.meaning.proofs.Walks.{Walks, walks, walks-depth, tiles}
+use Rattle.meaning.proofs.Structures.{row-at}
+use Rattle.meaning.proofs.Walks.{walks, walks-depth, tiles}
 use Rattle.meaning.proofs.Fuel.{walk-zero}
 use Rattle.meaning.proofs.Spans.{tiles-size}
 use Rattle.meaning.proofs.Tops.{until-walk, tops-next}

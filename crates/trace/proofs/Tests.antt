@@ -1,7 +1,7 @@
 -- Laws of tests that are taken together.
 use mathlib.Core.Path.{_≡_, refl}
 use mathlib.Core.Bool.{Bool, true, false, not, _&&_, _||_}
-use Rattle.meaning.specs.Answer.{Result, when}
+use Rattle.meaning.specs.Answer.{when}
 
 -- four tests in a group of their own
 pub four-first : (b c d e f : Bool) → (b && (c && (d && e))) && f ≡ b && (c && (d && (e && f)))

@@ -10,8 +10,7 @@ use Rattle.meaning.specs.Structure.{Row, structureAt}
 use Rattle.meaning.specs.Walk.{Walked, walked, ahead, enter, walk}
 use Rattle.meaning.specs.Message.{Stepped}
 use Rattle.meaning.proofs.Tests.{clash, then-accepted}
-use Rattle.meaning.proofs.Structures.{RowAt}
-use Rattle.meaning.proofs.Walks.{Walks, walks, walks-le}
+use Rattle.meaning.proofs.Walks.{walks, walks-le}
 use Rattle.meaning.proofs.Fuel.{walk-zero, walk-suc}
 use Rattle.pcf.specs.Rows.{rowOf}
 use Rattle.pcf.specs.Tallies.{Tally, tallied, endedOf, walkedOf}

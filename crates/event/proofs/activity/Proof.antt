@@ -1,5 +1,5 @@
 -- `activity` meets its contract.
-use mathlib.Core.Path.{_≡_, sym, ap, _∙_}
+use mathlib.Core.Path.{sym, _∙_}
 use borrow.Author.Needs.{needs}
 use denote.Ref.{now}
 use Rattle.event.proofs.Found.{unread-event, unsound-event, is-ready, entered-event}

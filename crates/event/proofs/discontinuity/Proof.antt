@@ -1,5 +1,5 @@
 -- `discontinuity` meets its contract.
-use mathlib.Core.Path.{_≡_, sym, ap, _∙_}
+use mathlib.Core.Path.{_∙_}
 use borrow.Author.Needs.{needs}
 use Rattle.event.proofs.Found.{unread-event, is-countable, counted-event}
 use Rattle.meaning.specs.Event.{discontinuity}

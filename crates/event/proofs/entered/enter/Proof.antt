@@ -1,8 +1,7 @@
 -- `entered::enter` meets its contract.
-use mathlib.Core.Path.{_≡_, sym, ap, _∙_}
+use mathlib.Core.Path.{sym, ap, _∙_}
 use native.Mathlib.Omega.{arith}
 use borrow.Author.Needs.{needs}
-use denote.Ref.{now}
 use Rattle.event.specs.Events.{answerOf}
 use Rattle.event.proofs.Entries.{group-most, length-most, place-most, ready-writable, ready-reportable, ready-written, left-denied}
 use Rattle.event.proofs.entered.enter.Statement.{statement}

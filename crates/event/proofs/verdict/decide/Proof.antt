@@ -1,10 +1,8 @@
 -- `verdict::decide` meets its contract.
-use mathlib.Core.Path.{_≡_, refl, sym, ap, _∙_}
-use native.Mathlib.Omega.{arith}
+use mathlib.Core.Path.{sym, ap, _∙_}
 use borrow.Author.Needs.{needs}
 use Rattle.event.proofs.Verdicts.{over, full, no-room, no-report, is-done}
-use Rattle.meaning.specs.Event.{Answer, done, denied, Done}
-use mathlib.Core.Bool.{Bool}
+use Rattle.meaning.specs.Event.{done, denied}
 use Rattle.event.proofs.verdict.decide.Statement.{statement}
 use Rattle.event.proofs.verdict.decide.Tie as tie
 

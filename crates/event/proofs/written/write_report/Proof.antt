@@ -1,5 +1,5 @@
 -- `written::write_report` meets its contract.
-use mathlib.Core.Path.{_≡_, sym, ap, _∙_}
+use mathlib.Core.Path.{_∙_}
 use borrow.Author.Needs.{needs}
 use Rattle.event.proofs.Writes.{header-and-group}
 use Rattle.event.proofs.written.write_report.Statement.{statement}

@@ -1,5 +1,5 @@
 -- `structures::checked` meets its contract.
-use mathlib.Core.Path.{_≡_, sym, ap, _∙_, subst}
+use mathlib.Core.Path.{sym, ap, _∙_, subst}
 use borrow.Author.Needs.{needs}
 use Rattle.pcf.specs.Messages.{checkedOf}
 use Rattle.pcf.specs.declared.message.Checked.{Checked}

@@ -1,5 +1,5 @@
 -- `structures::gw_step` meets its contract.
-use mathlib.Core.Path.{_≡_, sym, ap, _∙_, subst}
+use mathlib.Core.Path.{sym, ap, _∙_}
 use borrow.Author.Needs.{needs}
 use Rattle.pcf.specs.Messages.{steppedOf}
 use Rattle.gwirandol.proofs.Steps.{steps-refused, steps-row}

@@ -1,5 +1,5 @@
 -- `structures::gw_tally` meets its contract.
-use mathlib.Core.Path.{_≡_, sym, ap, _∙_, subst}
+use mathlib.Core.Path.{sym, ap, _∙_, subst}
 use borrow.Author.Needs.{needs}
 use Rattle.meaning.specs.Message.{check, tally}
 use Rattle.gwirandol.specs.Codes.{code, Fits}

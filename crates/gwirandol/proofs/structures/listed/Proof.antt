@@ -1,5 +1,5 @@
 -- `structures::listed` meets its contract.
-use mathlib.Core.Path.{_≡_, sym, ap, _∙_, subst}
+use mathlib.Core.Path.{sym, ap, _∙_, subst}
 use borrow.Author.Needs.{needs}
 use Rattle.listing.specs.Entries.{listedOf}
 use Rattle.listing.specs.declared.Listed.{Listed}

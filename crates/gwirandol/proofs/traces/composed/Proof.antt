@@ -1,5 +1,5 @@
 -- `traces::composed` meets its contract.
-use mathlib.Core.Path.{_≡_, sym, ap, _∙_, subst}
+use mathlib.Core.Path.{sym, ap, _∙_, subst}
 use borrow.Author.Needs.{needs}
 use Rattle.trace.specs.Composes.{composedOf}
 use Rattle.trace.specs.declared.composition.Composed.{Composed}

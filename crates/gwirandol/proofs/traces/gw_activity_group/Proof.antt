@@ -1,5 +1,5 @@
 -- `traces::gw_activity_group` meets its contract.
-use mathlib.Core.Path.{_≡_, sym, ap, _∙_, subst}
+use mathlib.Core.Path.{ap}
 use borrow.Author.Needs.{needs}
 use mathlib.Core.List.{[], _∷_}
 use Rattle.meaning.specs.Activity.{Span}

@@ -1,5 +1,5 @@
 -- `traces::gw_compose` meets its contract.
-use mathlib.Core.Path.{_≡_, sym, ap, _∙_, subst}
+use mathlib.Core.Path.{sym, ap, _∙_, subst}
 use borrow.Author.Needs.{needs}
 use Rattle.meaning.specs.Compose.{Composed}
 use Rattle.gwirandol.specs.Codes.{code, Fits}

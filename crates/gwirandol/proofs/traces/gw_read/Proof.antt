@@ -1,5 +1,4 @@
 -- `traces::gw_read` meets its contract.
-use mathlib.Core.Path.{_≡_, sym, ap, _∙_, subst}
 use native.Mathlib.Omega.{arith}
 use borrow.Author.Needs.{needs}
 use Rattle.gwirandol.proofs.Readings.{read-place, reads-refused, reads-found}

@@ -5,8 +5,8 @@ use native.Mathlib.Omega.{arith}
 use borrow.Author.Needs.{needs}
 use denote.Ref.{now}
 use Rattle.meaning.specs.Message.{lengthOk, step}
-use Rattle.meaning.proofs.Structures.{RowAt, row-at}
-use Rattle.meaning.proofs.Scans.{Sized, sized}
+use Rattle.meaning.proofs.Structures.{row-at}
+use Rattle.meaning.proofs.Scans.{sized}
 use Rattle.pcf.proofs.Answers.{is-row, is-refusal}
 use Rattle.pcf.proofs.message.step.Statement.{statement}
 use Rattle.pcf.proofs.message.step.Tie as tie

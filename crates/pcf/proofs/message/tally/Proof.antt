@@ -7,7 +7,7 @@ use native.Mathlib.Omega.{arith}
 use borrow.Author.Needs.{needs}
 use denote.Ref.{now}
 use Rattle.meaning.specs.Message.{headerOk, partOf, lengthOk, scan, check, tally}
-use Rattle.meaning.proofs.Scans.{Sized, sized, header-part, scan-unsized, scan-unheaded, scan-walk}
+use Rattle.meaning.proofs.Scans.{sized, header-part, scan-unsized, scan-unheaded, scan-walk}
 use Rattle.pcf.specs.Messages.{Tallies, TalliedAs}
 use Rattle.pcf.specs.declared.message.Tallied.{Tallied}
 use Rattle.pcf.proofs.message.tally.Statement.{statement}

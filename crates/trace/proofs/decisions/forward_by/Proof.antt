@@ -5,9 +5,9 @@ use mathlib.Core.List.{List}
 use Prim.Native.Nat.{ℕ}
 use borrow.Author.Needs.{needs}
 use Rattle.meaning.specs.Names.{«MQROUTE_FORWARD_IF_SUPPORTED», «MQROUTE_DELIVER_YES», rejectUnsupported, Forward, Deliver, «MQFB_UNSUPPORTED_DELIVERY», «MQFB_UNSUPPORTED_FORWARDING», «MQFB_NOT_FORWARDED»}
-use Rattle.meaning.specs.Answer.{Result, accepted, refused, when}
+use Rattle.meaning.specs.Answer.{accepted, refused, when}
 use Rattle.meaning.specs.Trace.{value, anyBit}
-use Rattle.meaning.specs.Decision.{Decision, forward, unrecognised, deliverYes, ifSupported, forwardBy}
+use Rattle.meaning.specs.Decision.{forward, unrecognised, deliverYes, ifSupported, forwardBy}
 use Rattle.trace.proofs.Tests.{still-open}
 use Rattle.trace.proofs.decisions.forward_by.Statement.{statement}
 use Rattle.trace.proofs.decisions.forward_by.Tie as tie

@@ -1,15 +1,15 @@
 -- `groups::survey` meets its contract. The invariant: what is counted from here on, with what was counted before, is what the
 -- whole walk comes to; and no count is above the structures gone over.
 use mathlib.Core.Path.{_≡_, refl, sym, _∙_}
-use Prim.Native.Nat.{ℕ, _+_, _-_, _≤_}
+use Prim.Native.Nat.{_+_, _≤_}
 use native.Mathlib.Omega.{arith}
 use borrow.Author.Needs.{needs}
 use denote.Ref.{now}
 use Rattle.meaning.specs.Walk.{walk}
 use Rattle.meaning.specs.Message.{partOf}
-use Rattle.meaning.proofs.Structures.{RowAt, row-at}
+use Rattle.meaning.proofs.Structures.{row-at}
 use Rattle.trace.specs.Groups.{surveyed}
-use Rattle.trace.proofs.Turns.{is-step, is-stop, Over, over, over-le}
+use Rattle.trace.proofs.Turns.{is-step, is-stop, over, over-le}
 use Rattle.trace.proofs.Surveys.{surveyFrom, survey-start, survey-end, survey-halt, survey-next, count-le}
 use Rattle.trace.proofs.groups.survey.Statement.{statement}
 use Rattle.trace.proofs.groups.survey.Tie as tie

@@ -6,7 +6,7 @@ use borrow.Author.Tests.{not-true, not-false}
 use denote.Ref.{now}
 use Rattle.meaning.specs.Message.{partOf, headerOk, lengthOk}
 use Rattle.meaning.specs.Trace.{sheetOk}
-use Rattle.meaning.proofs.Scans.{Sized, sized, header-part, scan-unsized, scan-unheaded}
+use Rattle.meaning.proofs.Scans.{sized, header-part, scan-unsized, scan-unheaded}
 use Rattle.pcf.specs.Tallies.{endedOf}
 use Rattle.trace.specs.Composes.{termsOf}
 use Rattle.trace.specs.Groups.{surveyOf}

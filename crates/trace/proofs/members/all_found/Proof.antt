@@ -1,6 +1,6 @@
 -- `members::all_found` meets its contract. The invariant: the marks from `k` on tell as much as all of them.
 use mathlib.Core.Path.{_≡_, refl, sym, _∙_}
-use Prim.Native.Nat.{ℕ, _-_, _≤_}
+use Prim.Native.Nat.{_-_, _≤_}
 use native.Mathlib.Omega.{arith}
 use lib.ListN.{drop}
 use Rattle.trace.specs.Marks.{allFound}

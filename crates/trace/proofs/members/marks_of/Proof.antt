@@ -1,7 +1,7 @@
 -- `members::marks_of` meets its contract. The invariant: the marks so far, with the direct members from here on, come to the
 -- marks after all of them.
 use mathlib.Core.Path.{_≡_, refl, sym, ap, _∙_}
-use Prim.Native.Nat.{ℕ, _-_, _<_}
+use Prim.Native.Nat.{ℕ, _<_}
 use native.Mathlib.Omega.{arith}
 use borrow.Author.Needs.{needs}
 use denote.Ref.{now}

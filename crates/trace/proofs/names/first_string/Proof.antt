@@ -2,7 +2,7 @@
 -- from here on are sound.
 use mathlib.Core.Path.{_≡_, refl, sym, ap, _∙_}
 use mathlib.Core.Bool.{true}
-use Prim.Native.Nat.{ℕ, _+_, _-_, _≤_}
+use Prim.Native.Nat.{ℕ, _+_, _≤_}
 use native.Mathlib.Omega.{arith}
 use borrow.Author.Needs.{needs}
 use borrow.Author.Tests.{eqb-true}
@@ -15,7 +15,7 @@ use Rattle.meaning.proofs.Tests.{and-true}
 use Rattle.meaning.proofs.Parts.{num-part}
 use Rattle.meaning.proofs.Strings.{string-data}
 use Rattle.trace.specs.Naming.{stringIn, isSound}
-use Rattle.trace.proofs.Turns.{is-step, is-stop, Over, over}
+use Rattle.trace.proofs.Turns.{is-step, is-stop, over}
 use Rattle.trace.proofs.Namings.{string-end, string-halt, sound-next, string-hit, string-miss}
 use Rattle.trace.proofs.names.first_string.Statement.{statement}
 use Rattle.trace.proofs.names.first_string.Tie as tie

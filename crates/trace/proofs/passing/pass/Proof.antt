@@ -1,7 +1,7 @@
 -- `passing::pass` meets its contract: the structure, and the walk over what is inside it.
 use native.Mathlib.Omega.{arith}
 use lib.ListN.{replicate}
-use Rattle.meaning.proofs.Structures.{RowAt, row-at}
+use Rattle.meaning.proofs.Structures.{row-at}
 use Rattle.meaning.proofs.Members.{members-shallow}
 use Rattle.pcf.proofs.Answers.{is-row, is-refusal}
 use Rattle.pcf.proofs.Counting.{zeros-low}
