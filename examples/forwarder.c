@@ -30,6 +30,9 @@ static size_t load(const char *name)
         exit(2);
     }
     size_t length = fread(message, 1, sizeof message, file);
+    if (fgetc(file) != EOF) {
+        length++; /* longer than any message: the library refuses a length above the buffer */
+    }
     fclose(file);
     return length;
 }
