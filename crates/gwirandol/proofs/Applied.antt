@@ -15,12 +15,13 @@ use Rattle.meaning.proofs.Sound.{sound}
 use Rattle.meaning.proofs.Outcomes.{read-refused}
 use Rattle.answers.specs.Refusals.{numberOf, placeOf, owed}
 use Rattle.answers.specs.declared.Refusal.{Refusal}
-use Rattle.event.specs.Events.{answerOf, counterOf, outcome, levelOf, activityOf, settingsOf}
-use Rattle.event.specs.declared.plan.Level.{Level}
-use Rattle.event.specs.declared.plan.Settings.{Settings}
-use Rattle.event.specs.declared.verdict.Done.{Done}
-use Rattle.event.specs.declared.verdict.Answer.{Answer as Said}
-use Rattle.event.specs.declared.verdict.Answer.the-variants as answer
+use Rattle.verdict.specs.Plans.{answerOf, counterOf, levelOf, activityOf, settingsOf}
+use Rattle.event.specs.Events.{outcome}
+use Rattle.verdict.specs.declared.plan.Level.{Level}
+use Rattle.verdict.specs.declared.plan.Settings.{Settings}
+use Rattle.verdict.specs.declared.answer.Done.{Done}
+use Rattle.verdict.specs.declared.answer.Answer.{Answer as Said}
+use Rattle.verdict.specs.declared.answer.Answer.the-variants as answer
 use Rattle.gwirandol.specs.Traces.{terms}
 use Rattle.gwirandol.specs.Events.{levelIn, activityIn, Brief, Tells, Applies}
 

@@ -11,10 +11,10 @@ use Rattle.meaning.specs.Trace.{Terms, Trace, value, sheetOk, readTrace, read}
 use Rattle.meaning.specs.Names.{Forward as Forward·, Deliver}
 use Rattle.meaning.specs.Decision.{Decision, unrecognised, deliverYes, ifSupported, forwardBy, arriveBy, forwarding, arrival}
 use Rattle.meaning.proofs.Tests.{clash}
-use Rattle.trace.specs.Decisions.{judgedOf}
-use Rattle.trace.specs.declared.decisions.Decision.{Decision as Decided}
-use Rattle.trace.specs.declared.decisions.Decision.the-variants.{Forward, PutLocally, Withhold}
-use Rattle.trace.specs.declared.decisions.Judged.the-variants.{Decided as Decides}
+use Rattle.attributes.specs.Decisions.{judgedOf}
+use Rattle.attributes.specs.declared.decisions.Decision.{Decision as Decided}
+use Rattle.attributes.specs.declared.decisions.Decision.the-variants.{Forward, PutLocally, Withhold}
+use Rattle.attributes.specs.declared.decisions.Judged.the-variants.{Decided as Decides}
 use Rattle.answers.specs.Refusals.{numberOf}
 use Rattle.answers.specs.declared.Refusal.{Refusal}
 use Rattle.answers.specs.declared.Refusal.the-variants.{BadLength, BadHeader, BadStructure, TooDeep, LeftOver, NoTraceHeader, NoTraceRoute, BadAttribute, BadGroup, MaxActivities, CounterFull, NoRoom, ReportTooShort, UnsupportedDelivery, UnsupportedForwarding, NotForwarded, BadSheet}

@@ -7,8 +7,8 @@ use Rattle.meaning.specs.Answer.{Result, accepted, refused}
 use Rattle.meaning.specs.Trace.{Terms, read}
 use Rattle.meaning.specs.Decision.{Decision as Meant, forward, putLocally, withhold}
 use Rattle.meaning.specs.Activity.{activityGroup, Name, inMessage, substitute}
-use Rattle.trace.specs.declared.decisions.Decision.{Decision}
-use Rattle.trace.specs.declared.decisions.Decision.the-variants.{Forward, PutLocally, Withhold}
+use Rattle.attributes.specs.declared.decisions.Decision.{Decision}
+use Rattle.attributes.specs.declared.decisions.Decision.the-variants.{Forward, PutLocally, Withhold}
 use Rattle.meaning.specs.Compose.{compose}
 use Rattle.gwirandol.specs.Codes.{code}
 

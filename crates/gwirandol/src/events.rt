@@ -1,17 +1,18 @@
 // Events on a trace.
 use crate::code::given;
 use answers::Refusal;
-use event::Answer;
-use event::Counter;
-use event::Level;
-use event::Settings;
+use verdict::Answer;
+use verdict::Counter;
+use verdict::Level;
+use verdict::Settings;
 ghost use mathlib.Core.Path.{_≡_};
 ghost use mathlib.Core.Bool.{cond};
 ghost use mathlib.Core.List.{[]};
 ghost use Prim.Native.Nat.{_+_, _*_, _≤_};
 ghost use Rattle.meaning.specs.Event.{discontinuity};
 ghost use Rattle.answers.specs.Refusals.{numberOf, placeOf, owed};
-ghost use Rattle.event.specs.Events.{counterOf, levelOf, answerOf, state};
+ghost use Rattle.verdict.specs.Plans.{counterOf, levelOf, answerOf};
+ghost use Rattle.event.specs.Events.{state};
 ghost use Rattle.gwirandol.specs.Events.{levelIn, activityIn, Brief, Tells, Applies};
 
 // A counter's position among the eight attributes.

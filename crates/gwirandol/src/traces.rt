@@ -1,18 +1,18 @@
 // Compose, read, the decisions, Activity groups and names.
 use crate::code::given;
 use crate::code::refused;
+use activities::Named;
+use attributes::Decision;
+use attributes::Judged;
+use compose::Composed;
 use trace::Answer;
-use trace::Composed;
-use trace::Decision;
-use trace::Judged;
-use trace::Named;
 ghost use mathlib.Core.Path.{_≡_};
 ghost use Rattle.gwirandol.specs.Codes.{code, Fits};
 ghost use Rattle.gwirandol.specs.Traces.{Composes, Reads, decisionOf, decided, Spans, Names, terms};
 ghost use Rattle.meaning.specs.Activity.{nameOf};
 ghost use Rattle.meaning.specs.Decision.{forwarding, arrival};
-ghost use Rattle.trace.specs.Composes.{composedOf};
-ghost use Rattle.trace.specs.Decisions.{judgedOf};
+ghost use Rattle.compose.specs.Composes.{composedOf};
+ghost use Rattle.attributes.specs.Decisions.{judgedOf};
 
 // Compose's answer.
 fn composed(found: Composed) -> u64
@@ -32,7 +32,7 @@ pub extern "C" fn gw_compose(sheet: &[u32; 8], values: &[u32; 8], buffer: &mut [
 {
     let s = *sheet;
     let v = *values;
-    composed(trace::compose(s, v, buffer))
+    composed(compose::compose(s, v, buffer))
 }
 
 // READ: 0 and the eight values, or 17, then 1 to 8 and the values stay.
@@ -115,7 +115,7 @@ pub extern "C" fn gw_activity_group(
     ensures { λ _. ⌜ Spans (now (buffer .entry)) length (now (sheet .entry)) n (now (part .exit)) ⌝ }
 {
     let s = *sheet;
-    let span = trace::activity_span(buffer, length, s, n);
+    let span = activities::activity_span(buffer, length, s, n);
     *part = [span.place as u64, span.length as u64];
 }
 
@@ -132,7 +132,7 @@ pub extern "C" fn gw_named_string(
     ensures { λ r. ⌜ Names (nameOf (terms (now (sheet .entry))) (now (buffer .entry)) length n identifier) (now (part .entry)) r (now (part .exit)) ⌝ }
 {
     let s = *sheet;
-    let found = trace::name_span(buffer, length, s, n, identifier);
+    let found = activities::name_span(buffer, length, s, n, identifier);
     match found {
         Named::Substitute => false,
         Named::InMessage(span) => {

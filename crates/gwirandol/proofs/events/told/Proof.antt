@@ -2,8 +2,8 @@
 use mathlib.Core.Path.{subst}
 use native.Mathlib.Omega.{arith}
 use borrow.Author.Needs.{needs}
-use Rattle.event.specs.Events.{answerOf}
-use Rattle.event.specs.declared.verdict.Answer.{Answer}
+use Rattle.verdict.specs.Plans.{answerOf}
+use Rattle.verdict.specs.declared.answer.Answer.{Answer}
 use Rattle.gwirandol.specs.Events.{Brief}
 use Rattle.gwirandol.proofs.Applied.{told-denied, told-done}
 use Rattle.gwirandol.proofs.events.told.Statement.{statement}

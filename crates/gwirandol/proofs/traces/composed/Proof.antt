@@ -1,8 +1,8 @@
 -- `traces::composed` meets its contract.
 use mathlib.Core.Path.{sym, ap, _∙_, subst}
 use borrow.Author.Needs.{needs}
-use Rattle.trace.specs.Composes.{composedOf}
-use Rattle.trace.specs.declared.composition.Composed.{Composed}
+use Rattle.compose.specs.Composes.{composedOf}
+use Rattle.compose.specs.declared.composition.Composed.{Composed}
 use Rattle.gwirandol.specs.Codes.{code, Fits}
 use Rattle.gwirandol.proofs.traces.composed.Statement.{statement}
 use Rattle.gwirandol.proofs.traces.composed.Tie as tie

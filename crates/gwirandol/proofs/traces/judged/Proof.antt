@@ -2,8 +2,8 @@
 use mathlib.Core.Path.{sym, ap, _∙_, subst}
 use native.Mathlib.Omega.{arith}
 use borrow.Author.Needs.{needs}
-use Rattle.trace.specs.Decisions.{judgedOf}
-use Rattle.trace.specs.declared.decisions.Judged.{Judged}
+use Rattle.attributes.specs.Decisions.{judgedOf}
+use Rattle.attributes.specs.declared.decisions.Judged.{Judged}
 use Rattle.gwirandol.specs.Codes.{code, Fits}
 use Rattle.gwirandol.specs.Traces.{decided}
 use Rattle.gwirandol.proofs.Reach.{decision-small, decision-code}
