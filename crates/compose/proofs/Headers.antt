@@ -25,10 +25,6 @@ pub entry : (table : List ℕ) → Rule table → (k : Kind) (i : ℕ) → i < 9
 entry table rule k i h =
     sym (getD-drop (rowOf k) table i 0) ∙ sym (getD-take 9 (drop (rowOf k) table) i 0 h) ∙ ap (λ (l : List ℕ). getD l i 0) (rule k)
 
-pub row-small : (k : Kind) → rowOf k ≤ 9
-row-small Trace = omega arith
-row-small Report = omega arith
-
 pub nine : (k : Kind) → length (fieldsOf k) ≡ 9
 unfolding headerFields traceHeaderFields reportHeaderFields
 nine Trace = refl

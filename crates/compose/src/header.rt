@@ -5,7 +5,7 @@ ghost use mathlib.Core.Path.{_≡_};
 ghost use Prim.Native.Nat.{_≤_, _<_};
 ghost use lib.ListN.{length, getD, take};
 ghost use Rattle.meaning.specs.Bytes.{words, splice};
-ghost use Rattle.compose.specs.Headers.{rowOf, fieldsOf, startsWith};
+ghost use Rattle.compose.specs.Headers.{fieldsOf, startsWith};
 
 // Which message a header starts.
 pub enum Kind {
@@ -16,22 +16,18 @@ pub enum Kind {
 // The nine fields of each: Type, StrucLength, Version, Command, MsgSeqNumber, Control, CompCode, Reason, ParameterCount.
 const FIELDS: [u32; 18] = [10, 36, 3, 75, 1, 1, 0, 0, 1, 12, 36, 3, 69, 1, 1, 0, 0, 1];
 
-// Where the fields of a header start in the table.
-fn row(kind: Kind) -> usize
-    ensures { λ r. ⌜ r ≡ rowOf kind ⌝ }
-{
-    match kind {
-        Kind::Trace => 0,
-        Kind::Report => 9,
-    }
-}
+// Where the report's fields start in the table; the trace's stand first.
+const REPORT: usize = 9;
 
 fn field(kind: Kind, i: usize) -> u32
     requires { ⌜ i < 9 ⌝ }
     ensures { λ r. ⌜ r ≡ getD (fieldsOf kind) i 0 ⌝ }
 {
-    let k = row(kind) + i;
-    FIELDS[k]
+    // by case, so that a known field of a known header is a constant
+    match kind {
+        Kind::Trace => FIELDS[i],
+        Kind::Report => FIELDS[REPORT + i],
+    }
 }
 
 // Writes a header to the start of the buffer; what is behind it stays.

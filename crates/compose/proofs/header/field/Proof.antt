@@ -1,12 +1,13 @@
 -- `header::field` meets its contract: the table keeps its rule, and a field of a header is an entry of the table.
-use mathlib.Core.Path.{refl}
+use mathlib.Core.Path.{_≡_, refl, ap, _∙_}
 use mathlib.Core.List.{List, [], _∷_}
-use Prim.Native.Nat.{ℕ}
+use Prim.Native.Nat.{ℕ, _+_}
 use native.Mathlib.Omega.{arith}
+use lib.ListN.{getD}
 use borrow.Author.Needs.{needs}
 use Rattle.meaning.specs.Compose.{headerFields, traceHeaderFields, reportHeaderFields}
 use Rattle.compose.specs.declared.header.Kind.the-variants.{Trace, Report}
-use Rattle.compose.proofs.Headers.{Rule, entry, row-small}
+use Rattle.compose.proofs.Headers.{Rule, entry}
 use Rattle.compose.proofs.header.field.Statement.{statement}
 use Rattle.compose.proofs.header.field.Tie as tie
 
@@ -18,16 +19,27 @@ unfolding table headerFields traceHeaderFields reportHeaderFields
 rule Trace = refl
 rule Report = refl
 
-returns : tie.Need-returns
+of-trace : tie.Need-returns
 unfolding table
-returns c = rw (c .row .ensures) (entry table rule (c .before .args .kind) (c .before .args .i) (c .before .pre))
+of-trace c =
+    let i = c .before .before .args .i in
+    let first : i ≡ 0 + i = omega arith in
+    rw (c .enum-told .given .1) (ap (λ (k : ℕ). getD table k 0) first ∙ entry table rule Trace i (c .before .before .pre))
+
+of-report : tie.Need-returns-2
+unfolding table
+of-report c = rw (c .enum-told2 .given .1) (entry table rule Report (c .before .before .args .i) (c .before .before .pre))
 
 pub field-spec : {M : Type 1} → statement M
 field-spec =
     tie.close
     (tie.spec
-    (λ c κs. search needs)
-    (λ c. omega (arith, row-small (c .before .args .kind)))
-    (λ c. omega (arith, row-small (c .before .args .kind)))
-    (λ c. omega (arith, row-small (c .before .args .kind)))
-    returns)
+    (λ c. search needs)
+    (λ c. search needs)
+    (λ c. search needs)
+    (λ c. search needs)
+    (λ c. search needs)
+    (λ c. search needs)
+    (λ c. search needs)
+    of-trace
+    of-report)
