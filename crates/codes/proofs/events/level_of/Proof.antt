@@ -1,8 +1,8 @@
 -- `events::level_of` meets its contract.
 use mathlib.Core.Path.{refl}
 use borrow.Author.Tests.{eq-eqb, ne-eqb}
-use Rattle.gwirandol.proofs.events.level_of.Statement.{statement}
-use Rattle.gwirandol.proofs.events.level_of.Tie as tie
+use Rattle.codes.proofs.events.level_of.Statement.{statement}
+use Rattle.codes.proofs.events.level_of.Tie as tie
 
 pub level-of-spec : {M : Type 1} → statement M
 level-of-spec =

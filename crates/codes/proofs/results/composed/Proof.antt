@@ -1,11 +1,11 @@
--- `traces::composed` meets its contract.
+-- `results::composed` meets its contract.
 use mathlib.Core.Path.{sym, ap, _∙_, subst}
 use borrow.Author.Needs.{needs}
 use Rattle.compose.specs.Composes.{composedOf}
 use Rattle.compose.specs.declared.composition.Composed.{Composed}
-use Rattle.gwirandol.specs.Codes.{code, Fits}
-use Rattle.gwirandol.proofs.traces.composed.Statement.{statement}
-use Rattle.gwirandol.proofs.traces.composed.Tie as tie
+use Rattle.codes.specs.Codes.{code, Fits}
+use Rattle.codes.proofs.results.composed.Statement.{statement}
+use Rattle.codes.proofs.results.composed.Tie as tie
 
 pub composed-spec : {M : Type 1} → statement M
 composed-spec =

@@ -1,11 +1,11 @@
--- `structures::checked` meets its contract.
+-- `results::checked` meets its contract.
 use mathlib.Core.Path.{sym, ap, _∙_, subst}
 use borrow.Author.Needs.{needs}
 use Rattle.pcf.specs.Messages.{checkedOf}
 use Rattle.pcf.specs.declared.message.Checked.{Checked}
-use Rattle.gwirandol.specs.Codes.{code, Fits}
-use Rattle.gwirandol.proofs.structures.checked.Statement.{statement}
-use Rattle.gwirandol.proofs.structures.checked.Tie as tie
+use Rattle.codes.specs.Codes.{code, Fits}
+use Rattle.codes.proofs.results.checked.Statement.{statement}
+use Rattle.codes.proofs.results.checked.Tie as tie
 
 pub checked-spec : {M : Type 1} → statement M
 checked-spec =

@@ -1,14 +1,14 @@
--- `traces::judged` meets its contract.
+-- `results::judged` meets its contract.
 use mathlib.Core.Path.{sym, ap, _∙_, subst}
 use native.Mathlib.Omega.{arith}
 use borrow.Author.Needs.{needs}
 use Rattle.attributes.specs.Decisions.{judgedOf}
 use Rattle.attributes.specs.declared.decisions.Judged.{Judged}
-use Rattle.gwirandol.specs.Codes.{code, Fits}
-use Rattle.gwirandol.specs.Traces.{decided}
-use Rattle.gwirandol.proofs.Reach.{decision-small, decision-code}
-use Rattle.gwirandol.proofs.traces.judged.Statement.{statement}
-use Rattle.gwirandol.proofs.traces.judged.Tie as tie
+use Rattle.codes.specs.Codes.{code, Fits}
+use Rattle.codes.specs.Decisions.{decided}
+use Rattle.codes.proofs.Numbers.{decision-small, decision-code}
+use Rattle.codes.proofs.results.judged.Statement.{statement}
+use Rattle.codes.proofs.results.judged.Tie as tie
 
 pub judged-spec : {M : Type 1} → statement M
 judged-spec =

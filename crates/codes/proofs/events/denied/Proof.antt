@@ -2,10 +2,10 @@
 use native.Mathlib.Omega.{arith}
 use mathlib.Core.Path.{refl}
 use borrow.Author.Needs.{needs}
-use Rattle.gwirandol.proofs.Reach.{number-below}
-use Rattle.gwirandol.proofs.Applied.{bit}
-use Rattle.gwirandol.proofs.events.denied.Statement.{statement}
-use Rattle.gwirandol.proofs.events.denied.Tie as tie
+use Rattle.codes.proofs.Numbers.{number-below}
+use Rattle.codes.proofs.Numbers.{bit}
+use Rattle.codes.proofs.events.denied.Statement.{statement}
+use Rattle.codes.proofs.events.denied.Tie as tie
 
 pub denied-spec : {M : Type 1} → statement M
 denied-spec =

@@ -1,5 +1,5 @@
--- Answers as numbers for C, and what each function leaves in what it is lent.
-use Prim.Native.Nat.{ℕ, _+_, _*_, _≤_}
+-- What the functions for structures answer, and what they leave.
+use Prim.Native.Nat.{ℕ}
 use mathlib.Core.Path.{_≡_}
 use mathlib.Core.List.{List, [], _∷_}
 use lib.ListN.{length}
@@ -7,16 +7,7 @@ use Rattle.meaning.specs.Answer.{Result, accepted, refused, andThen}
 use Rattle.meaning.specs.Message.{partOf, scan, check, tally, Stepped, step}
 use Rattle.meaning.specs.Listing.{listingText}
 use Rattle.listing.specs.Entries.{filled}
-
--- what is given times 32; or a refusal's place times 32 and its number, which is below 32
-abbrev pub code : Result ℕ → ℕ
-code (accepted n) = n * 32
-code (refused n p) = p * 32 + n
-
--- what is given, or the place, is small enough
-abbrev pub Fits : Result ℕ → Type 0
-Fits (accepted n) = n ≤ 4294967296
-Fits (refused n p) = p ≤ 4294967296
+use Rattle.codes.specs.Codes.{code}
 
 -- TALLY: the check's answer, and the counts
 pub record Tallies (buf : List ℕ) (len r : ℕ) (counts : List ℕ) : Type 0 where

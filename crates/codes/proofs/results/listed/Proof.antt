@@ -1,11 +1,11 @@
--- `structures::listed` meets its contract.
+-- `results::listed` meets its contract.
 use mathlib.Core.Path.{sym, ap, _∙_, subst}
 use borrow.Author.Needs.{needs}
 use Rattle.listing.specs.Entries.{listedOf}
 use Rattle.listing.specs.declared.Listed.{Listed}
-use Rattle.gwirandol.specs.Codes.{code, Fits}
-use Rattle.gwirandol.proofs.structures.listed.Statement.{statement}
-use Rattle.gwirandol.proofs.structures.listed.Tie as tie
+use Rattle.codes.specs.Codes.{code, Fits}
+use Rattle.codes.proofs.results.listed.Statement.{statement}
+use Rattle.codes.proofs.results.listed.Tie as tie
 
 pub listed-spec : {M : Type 1} → statement M
 listed-spec =
