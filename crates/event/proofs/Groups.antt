@@ -12,16 +12,16 @@ use Rattle.meaning.specs.Answer.{Result, accepted, refused}
 use Rattle.meaning.specs.Message.{partOf}
 use Rattle.meaning.specs.Walk.{Walked, walk}
 use Rattle.meaning.specs.Event.{lent, endsAt, groupOk}
-use Rattle.pcf.specs.Tallies.{Tally, tallied}
+use Rattle.pcf.specs.Passings.{Passage, passage}
 
--- where a walk that was counted ended
-abbrev pub endsIn : ℕ → Result ℕ → Bool
-endsIn n (accepted q) = eqb q n
+-- where a walk ended
+abbrev pub endsIn : ℕ → Result Passage → Bool
+endsIn n (accepted x) = eqb (x .behind) n
 endsIn n (refused k p) = false
 
-ends-as : (n : ℕ) (t : List ℕ) (x : Result Walked) → endsAt n x ≡ endsIn n (tallied t x .ended)
-ends-as n t (accepted w) = refl
-ends-as n t (refused k p) = refl
+ends-as : (n : ℕ) (x : Result Walked) → endsAt n x ≡ endsIn n (passage x)
+ends-as n (accepted w) = refl
+ends-as n (refused k p) = refl
 
 -- the group as the message that fills its bytes
 lent-part : (g : List ℕ) → partOf g (length g) ≡ lent g
@@ -48,10 +48,8 @@ module _ (g : List ℕ) where
         no-activity h = rw (le-leb 16 (length g) least, le-leb (length g) 65500 most, eq-eqb (number g 0) 20 kind, ne-eqb (number g 8) 8005 h) refl
 
         -- then the walk decides
-        pub by-walk : number g 8 ≡ 8005 → (t counts : List ℕ) (e : Result ℕ) → record { ended = e; counts = counts } ≡ tallied t (walk (partOf g (length g)) 0 1 1)
-            → endsIn (length g) e ≡ groupOk g
+        pub by-walk : number g 8 ≡ 8005 → (e : Result Passage) → e ≡ passage (walk (partOf g (length g)) 0 1 1) → endsIn (length g) e ≡ groupOk g
         unfolding groupOk
-        by-walk id t counts e h =
+        by-walk id e h =
             rw (le-leb 16 (length g) least, le-leb (length g) 65500 most, eq-eqb (number g 0) 20 kind, eq-eqb (number g 8) 8005 id)
-            (ap (λ (x : Tally). endsIn (length g) (x .ended)) h
-            ∙ sym (ends-as (length g) t (walk (partOf g (length g)) 0 1 1)) ∙ ap (λ (m : Part). endsAt (length g) (walk m 0 1 1)) (lent-part g))
+            (ap (endsIn (length g)) h ∙ sym (ends-as (length g) (walk (partOf g (length g)) 0 1 1)) ∙ ap (λ (m : Part). endsAt (length g) (walk m 0 1 1)) (lent-part g))

@@ -1,6 +1,6 @@
 // The lent Activity group.
-use pcf::Ended;
-use pcf::siblings;
+use pcf::Passed;
+use pcf::over;
 use wire::number_at;
 ghost use mathlib.Core.Path.{_≡_};
 ghost use Rattle.meaning.specs.Event.{groupOk};
@@ -31,10 +31,9 @@ pub fn group_ok(group: &[u8]) -> bool
     if number_at(group, 8) != MQGACF_ACTIVITY {
         return false;
     }
-    let walked = siblings(group, len, 0, 1, 1, [0u32; 27]);
-    let ended = walked.ended;
-    match ended {
-        Ended::Behind(at) => at == len,
-        Ended::Refused(_) => false,
+    let passed = over(group, len, 0, 1, 1);
+    match passed {
+        Passed::Behind(at, _) => at == len,
+        Passed::Refused(_) => false,
     }
 }

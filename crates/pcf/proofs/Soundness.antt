@@ -1,6 +1,6 @@
 -- One structure, said with the numbers that were read: when it is sound, and what the meaning makes of it.
 use mathlib.Core.Path.{_≡_, refl, sym, ap, _∙_}
-use mathlib.Core.Bool.{Bool, true, false, cond, not, _&&_, Bool·not-not}
+use mathlib.Core.Bool.{Bool, true, false, cond, _&&_}
 use mathlib.Core.List.{List}
 use Prim.Native.Nat.{ℕ, _+_, _%_, _≤_, _<_}
 use native.Mathlib.Omega.{arith}
@@ -56,13 +56,13 @@ module _ (s : List ℕ) (end p d t n k a : ℕ) (room : p + 16 ≤ end)
       let f = sound-facts s end p t n e in
       word-part s end (p + n) (p + 12) (f .0) ∙ rw (le-leb (p + 12 + 4) (p + n) (omega (arith, f .1))) (sym ea)
 
-  -- the structure, by the two tests; the first is asked the other way round
+  -- the structure, by the two tests
   pub tested : (x y : Bool) (m : ℕ) → x ≡ soundIn (partOf s end) p t n → y ≡ (eqb t «MQCFT_GROUP» && ltb mostDepth d)
       → m ≡ cond (eqb t «MQCFT_GROUP») a 0
-      → judged (not (not x)) y p (record { depth = d; place = p; kind = t; parameter = k; size = n; members = m }) ≡ structureAt (partOf s end) p d
+      → judged x y p (record { depth = d; place = p; kind = t; parameter = k; size = n; members = m }) ≡ structureAt (partOf s end) p d
   unfolding structureAt judge soundIn
   tested x y m ex ey em =
       let e0 : num (partOf s end) p ≡ t = num-part s end p (omega arith) ∙ sym et in
       let e1 : num (partOf s end) (p + 4) ≡ n = num-part s end (p + 4) (omega arith) ∙ sym en in
       let e2 : num (partOf s end) (p + 8) ≡ k = num-part s end (p + 8) (omega arith) ∙ sym ek in
-      rw (Bool·not-not x, e0, e1, e2, ← ex, ← ey) (same-judged x y p _ _ (λ h. rw (em, first-word (sym ex ∙ h)) refl))
+      rw (e0, e1, e2, ← ex, ← ey) (same-judged x y p _ _ (λ h. rw (em, first-word (sym ex ∙ h)) refl))

@@ -1,4 +1,5 @@
 pub mod Rules
 pub mod Rows
 pub mod Tallies
+pub mod Passings
 pub mod Messages

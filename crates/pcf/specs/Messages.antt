@@ -3,13 +3,16 @@ use Prim.Native.Nat.{ℕ}
 use mathlib.Core.Path.{_≡_}
 use mathlib.Core.List.{List}
 use lib.ListN.{length}
-use Rattle.meaning.specs.Answer.{Result, accepted, andThen}
+use Rattle.meaning.specs.Names.{badLength, badHeader}
+use Rattle.meaning.specs.Answer.{Result, accepted, refused, andThen, unless}
 use Rattle.meaning.specs.Structure.{Row}
-use Rattle.meaning.specs.Message.{check, tallyOf, tally, Stepped as Step}
+use Rattle.meaning.specs.Message.{parameterCount, headerOk, partOf, lengthOk, check, tallyOf, tally, Stepped as Step}
 use Rattle.answers.specs.Refusals.{refusal}
 use Rattle.pcf.specs.Rows.{rowOf}
 use Rattle.pcf.specs.declared.message.Checked.{Checked}
 use Rattle.pcf.specs.declared.message.Checked.the-variants as checked
+use Rattle.pcf.specs.declared.message.Opening.{Opening}
+use Rattle.pcf.specs.declared.message.Opening.the-variants as opening
 use Rattle.pcf.specs.declared.message.Tallied.{Tallied}
 use Rattle.pcf.specs.declared.message.Stepped.{Stepped}
 use Rattle.pcf.specs.declared.message.Stepped.the-variants as stepped
@@ -17,6 +20,16 @@ use Rattle.pcf.specs.declared.message.Stepped.the-variants as stepped
 abbrev pub checkedOf : Checked → Result ℕ
 checkedOf (checked.Sound n) = accepted n
 checkedOf (checked.Refused r) = refusal r
+
+-- what comes before the structures: 1, then 2, then how many the header counts
+unfoldable pub opened : List ℕ → ℕ → Result ℕ
+opened buf len =
+    unless (lengthOk buf len) (refused badLength 0)
+    (unless (headerOk (partOf buf len)) (refused badHeader 0) (accepted (parameterCount (partOf buf len))))
+
+abbrev pub openedOf : Opening → Result ℕ
+openedOf (opening.Count n) = accepted n
+openedOf (opening.Refused r) = refusal r
 
 abbrev pub steppedOf : Stepped → Result Step
 steppedOf (stepped.Structure r q) = accepted (record { row = rowOf r; next = q })

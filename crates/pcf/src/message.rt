@@ -1,4 +1,6 @@
 // Whole messages: check, tally, and the walk one structure at a time.
+use crate::passing::Passed;
+use crate::passing::over;
 use crate::structure::Found;
 use crate::structure::Row;
 use crate::structure::structure_at;
@@ -16,7 +18,7 @@ ghost use Rattle.meaning.specs.Answer.{andThen};
 ghost use Rattle.meaning.specs.Walk.{walk};
 ghost use Rattle.meaning.specs.Message.{headerOk, partOf, lengthOk, closed, check, step};
 ghost use Rattle.answers.specs.Refusals.{refusal};
-ghost use Rattle.pcf.specs.Messages.{checkedOf, steppedOf, Tallies, TalliedAs};
+ghost use Rattle.pcf.specs.Messages.{checkedOf, opened, openedOf, steppedOf, Tallies, TalliedAs};
 
 // The most bytes of a message.
 const MOST_BYTES: usize = 65536;
@@ -27,6 +29,12 @@ const HEADER: usize = 36;
 // What a check finds: the number of structures, nested ones included, or 1 to 5.
 pub enum Checked {
     Sound(u32),
+    Refused(Refusal),
+}
+
+// The header's number of structures, or 1 or 2.
+enum Opening {
+    Count(u32),
     Refused(Refusal),
 }
 
@@ -112,19 +120,30 @@ fn structures(msg: &[u8], len: usize, count: u32) -> Tallied
     }
 }
 
-// TALLY: how many structures of each type a message has, beside the check's answer.
-pub fn tally(msg: &[u8], len: usize) -> Tallied
-    ensures { λ t. ⌜ TalliedAs (now (msg .entry)) len t ⌝ }
+// What comes before the structures: the ParameterCount of a sound header, or 1 or 2.
+fn opened(msg: &[u8], len: usize) -> Opening
+    ensures { λ r. ⌜ openedOf r ≡ opened (now (msg .entry)) len ⌝ }
 {
     if length_ok(msg, len) {
         let count = number_at(msg, 32);
         if header_ok(msg, count) {
-            structures(msg, len, count)
+            Opening::Count(count)
         } else {
-            refused(Refusal::BadHeader)
+            Opening::Refused(Refusal::BadHeader)
         }
     } else {
-        refused(Refusal::BadLength)
+        Opening::Refused(Refusal::BadLength)
+    }
+}
+
+// TALLY: how many structures of each type a message has, beside the check's answer.
+pub fn tally(msg: &[u8], len: usize) -> Tallied
+    ensures { λ t. ⌜ TalliedAs (now (msg .entry)) len t ⌝ }
+{
+    let opening = opened(msg, len);
+    match opening {
+        Opening::Refused(r) => refused(r),
+        Opening::Count(count) => structures(msg, len, count),
     }
 }
 
@@ -132,8 +151,23 @@ pub fn tally(msg: &[u8], len: usize) -> Tallied
 pub fn check(msg: &[u8], len: usize) -> Checked
     ensures { λ r. ⌜ checkedOf r ≡ check (now (msg .entry)) len ⌝ }
 {
-    let t = tally(msg, len);
-    t.answer
+    let opening = opened(msg, len);
+    match opening {
+        Opening::Refused(r) => Checked::Refused(r),
+        Opening::Count(count) => {
+            let passed = over(msg, len, HEADER, 1, count);
+            match passed {
+                Passed::Refused(r) => Checked::Refused(r),
+                Passed::Behind(at, n) => {
+                    if at == len {
+                        Checked::Sound(n)
+                    } else {
+                        Checked::Refused(Refusal::LeftOver(at))
+                    }
+                }
+            }
+        }
+    }
 }
 
 // ONE STRUCTURE AT A TIME: the structure at any place, taken to have any depth, and the place behind it. For a group that is

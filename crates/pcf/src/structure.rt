@@ -12,7 +12,7 @@ ghost use Rattle.meaning.specs.Names.{«MQCFT_GROUP», mostDepth};
 ghost use Rattle.meaning.specs.Structure.{judged, structureAt};
 ghost use Rattle.meaning.specs.Message.{partOf};
 ghost use Rattle.pcf.specs.Rules.{Fields};
-ghost use Rattle.pcf.specs.Rows.{soundIn, rowOf, foundOf};
+ghost use Rattle.pcf.specs.Rows.{soundIn, rowOf, foundOf, reachOf, extentOf};
 
 // The type of a group.
 pub const MQCFT_GROUP: u32 = 20;
@@ -37,6 +37,12 @@ pub struct Row {
 // What stands at a place: a sound structure, or 3 or 4.
 pub enum Found {
     Structure(Row),
+    Refused(Refusal),
+}
+
+// How far a sound structure reaches and how many structures follow inside it, or 3 or 4.
+pub enum Extent {
+    Sound(u32, u32),
     Refused(Refusal),
 }
 
@@ -110,4 +116,25 @@ pub fn structure_at(s: &[u8], end: usize, place: usize, depth: u32) -> Found
     };
     let unsound = !is_sound(s, end, place, kind, size, first);
     verdict(unsound, too_deep(kind, depth), row)
+}
+
+// The same without the row, for those who only pass over it. A walk asks this of each structure that it meets, so it is kept
+// small enough to be compiled into the walk.
+pub fn extent_at(s: &[u8], end: usize, place: usize, depth: u32) -> Extent
+    requires { ⌜ end ≤ length (now s) ⌝ }
+    ensures { λ r. ⌜ extentOf r ≡ reachOf (structureAt (partOf (now (s .entry)) end) place depth) ⌝ }
+{
+    if bytes_left(end, place) < 16 {
+        return Extent::Refused(Refusal::BadStructure(place));
+    }
+    let kind = number_at(s, place);
+    let size = number_at(s, place + 4);
+    let first = number_at(s, place + 12);
+    if !is_sound(s, end, place, kind, size, first) {
+        return Extent::Refused(Refusal::BadStructure(place));
+    }
+    if too_deep(kind, depth) {
+        return Extent::Refused(Refusal::TooDeep(place));
+    }
+    Extent::Sound(size, members_of(kind, first))
 }

@@ -1,4 +1,5 @@
-// The walk over structures and all that is inside them, which counts them by their types.
+// The walk over structures and all that is inside them, which counts them by their types. Only the tally needs the counts:
+// all others pass over structures without them.
 use crate::structure::Found;
 use crate::structure::structure_at;
 use answers::Refusal;

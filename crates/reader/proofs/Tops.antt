@@ -11,17 +11,17 @@ use Rattle.meaning.specs.Answer.{Result, accepted, refused, andThen}
 use Rattle.meaning.specs.Walk.{Walked, walk}
 use Rattle.meaning.specs.Message.{Stepped, partOf, lengthOk, step}
 use Rattle.meaning.proofs.Fuel.{walk-zero}
-use Rattle.pcf.specs.Tallies.{Tally, tallied}
+use Rattle.pcf.specs.Passings.{Passage, passage}
 use Rattle.reader.specs.Reading.{start, standing, nthTop}
 
 module _ (msg : List ℕ) where
   -- what stands at the place where a walk over the top level ended
-  abbrev pub from : Result ℕ → Result Stepped
-  from e = andThen e (λ q. standing msg (record { place = q; depth = 1 }))
+  abbrev pub from : Result Passage → Result Stepped
+  from e = andThen e (λ x. standing msg (record { place = x .behind; depth = 1 }))
 
-  counted : (t : List ℕ) (w : Result Walked) → from (tallied t w .ended) ≡ andThen w (λ x. standing msg (record { place = x .next; depth = 1 }))
-  counted t (accepted x) = refl
-  counted t (refused k p) = refl
+  passed-from : (w : Result Walked) → from (passage w) ≡ andThen w (λ x. standing msg (record { place = x .next; depth = 1 }))
+  passed-from (accepted x) = refl
+  passed-from (refused k p) = refl
 
   module _ (n : ℕ) where
     pub too-short : length msg < 36 → refused badLength 0 ≡ nthTop msg n
@@ -33,12 +33,11 @@ module _ (msg : List ℕ) where
     too-long h = rw (le-leb (length msg) (length msg) (omega arith), lt-leb (length msg) 65536 h) refl
 
     -- then the walk over the n before it decides
-    pub by-walk : 36 ≤ length msg → length msg ≤ 65536 → (t counts : List ℕ) (e : Result ℕ)
-        → record { ended = e; counts = counts } ≡ tallied t (walk (partOf msg (length msg)) 36 1 n) → from e ≡ nthTop msg n
+    pub by-walk : 36 ≤ length msg → length msg ≤ 65536 → (e : Result Passage) → e ≡ passage (walk (partOf msg (length msg)) 36 1 n) → from e ≡ nthTop msg n
     unfolding nthTop lengthOk
-    by-walk least most t counts e h =
+    by-walk least most e h =
         rw (le-leb (length msg) (length msg) (omega arith), le-leb (length msg) 65536 most, le-leb 36 (length msg) least)
-        (ap (λ (x : Tally). from (x .ended)) h ∙ counted t (walk (partOf msg (length msg)) 36 1 n))
+        (ap from h ∙ passed-from (walk (partOf msg (length msg)) 36 1 n))
 
 -- none before it: the 0-th is the one where a reader stands that was just opened
 pub nth-first : (msg : List ℕ) → nthTop msg 0 ≡ standing msg start

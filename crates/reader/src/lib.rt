@@ -5,9 +5,9 @@
 // and thin, and what has to be decided is left to functions over plain slices and numbers.
 use answers::Refusal;
 use pcf::Cursor;
-use pcf::Ended;
+use pcf::Passed;
 use pcf::Stepped;
-use pcf::siblings;
+use pcf::over;
 use pcf::step;
 ghost use mathlib.Core.Path.{_≡_};
 ghost use Rattle.pcf.specs.Messages.{steppedOf};
@@ -68,10 +68,9 @@ pub fn nth_top(msg: &[u8], n: u32) -> Stepped
     if MOST_BYTES < len {
         return Stepped::Refused(Refusal::BadLength);
     }
-    let walked = siblings(msg, len, HEADER, 1, n, [0u32; 27]);
-    let ended = walked.ended;
-    match ended {
-        Ended::Behind(place) => look(msg, Cursor { place, depth: 1 }),
-        Ended::Refused(r) => Stepped::Refused(r),
+    let passed = over(msg, len, HEADER, 1, n);
+    match passed {
+        Passed::Behind(place, _) => look(msg, Cursor { place, depth: 1 }),
+        Passed::Refused(r) => Stepped::Refused(r),
     }
 }

@@ -1,27 +1,27 @@
 -- A walk, one structure after the other: each with all that is inside it.
 use mathlib.Core.Path.{_≡_, refl, sym, ap, _∙_}
-use mathlib.Core.List.{List, _∷_, _++_}
-use Prim.Native.Nat.{ℕ, zero, suc, _+_, _-_, _≤_, _<_}
-use native.Mathlib.Numerals.{add-one}
+use mathlib.Core.List.{List, [], _∷_, _++_}
+use Prim.Native.Nat.{ℕ, _+_, _-_, _≤_, _<_}
 use native.Mathlib.Omega.{arith}
-use Rattle.meaning.specs.Bytes.{Part}
+use Rattle.meaning.specs.Bytes.{Part, number}
 use Rattle.meaning.specs.Answer.{Result, accepted, refused, andThen}
 use Rattle.meaning.specs.Structure.{Row, structureAt}
 use Rattle.meaning.specs.Walk.{Walked, walked, ahead, enter, walk}
-use Rattle.meaning.specs.Message.{Stepped}
+use Rattle.meaning.specs.Message.{Stepped, partOf}
 use Rattle.meaning.proofs.Tests.{clash, then-accepted}
 use Rattle.meaning.proofs.Walks.{walks, walks-le}
-use Rattle.meaning.proofs.Fuel.{walk-zero, walk-suc}
+use Rattle.meaning.proofs.Fuel.{walk-zero}
+use Rattle.meaning.proofs.Parts.{num-part}
+use Rattle.meaning.proofs.Structures.{row-at}
 use Rattle.pcf.specs.Rows.{rowOf}
-use Rattle.pcf.specs.Tallies.{Tally, tallied, endedOf, walkedOf}
 use Rattle.pcf.specs.Messages.{steppedOf}
+use Rattle.pcf.proofs.Answers.{Reaches}
+use Rattle.pcf.proofs.Turns.{unfolded, walk-on}
 use Rattle.answers.specs.declared.Refusal.{Refusal}
 use Rattle.answers.specs.Refusals.{refusal}
 use Rattle.pcf.specs.declared.structure.Row.{Row as Found·Row}
 use Rattle.pcf.specs.declared.message.Stepped.{Stepped as Steps}
 use Rattle.pcf.specs.declared.message.Stepped.the-variants as steps
-use Rattle.pcf.specs.declared.walk.Walked.{Walked as Counts}
-use Rattle.pcf.specs.declared.walk.Ended.{Ended}
 use Rattle.trace.specs.Passing.{passed}
 
 -- what the code has found, in the meaning's terms
@@ -31,24 +31,18 @@ is-step e h = sym e ∙ ap steppedOf h
 pub is-stop : {f : Steps} {x : Result Stepped} {q : Refusal} → steppedOf f ≡ x → f ≡ steps.Refused q → x ≡ refusal q
 is-stop e h = sym e ∙ ap steppedOf h
 
--- where a walk ends
-abbrev pub endOf : Result Walked → Result ℕ
-endOf w = andThen w (λ x. accepted (x .next))
+-- the row of a sound structure, with the numbers that were read
+row-as : (r : Row) (d p t k n j : ℕ) → d ≡ r .depth → p ≡ r .place → t ≡ r .kind → k ≡ r .parameter → r .size ≡ n → r .members ≡ j
+    → r ≡ record { depth = d; place = p; kind = t; parameter = k; size = n; members = j }
+row-as r d p t k n j a b c e f g = rw (a, b, c, e, ← f, ← g) refl
 
-tallied-end : (t : List ℕ) (w : Result Walked) → tallied t w .ended ≡ endOf w
-tallied-end t (accepted x) = refl
-tallied-end t (refused k q) = refl
-
--- the end of a walk that the code has counted
-pub ended-as : (t : List ℕ) (m : Part) (p d n : ℕ) (c : Counts) (e : Ended) → walkedOf c ≡ tallied t (walk m p d n) → c .ended ≡ e → endOf (walk m p d n) ≡ endedOf e
-ended-as t m p d n c e h g = sym (tallied-end t (walk m p d n)) ∙ sym (ap (λ (x : Tally). x .ended) h) ∙ ap endedOf g
-
-pub end-next : (w : Result Walked) (q : ℕ) → endOf w ≡ accepted q → (x : Walked) × (w ≡ accepted x) × (x .next ≡ q)
-end-next w q e = let g = then-accepted w (λ x. accepted (x .next)) q e in (g .0, g .1, cc (g .2))
-
-pub end-refused : (w : Result Walked) (k q : ℕ) → endOf w ≡ refused k q → w ≡ refused k q
-end-refused (accepted x) k q e = absurd (clash (cc))
-end-refused (refused k′ q′) k q e = cc
+pub row-read : (s : List ℕ) (end p d t k n j : ℕ) → Reaches (partOf s end) p d n j → t ≡ number s p → k ≡ number s (p + 8)
+    → structureAt (partOf s end) p d ≡ accepted (record { depth = d; place = p; kind = t; parameter = k; size = n; members = j })
+row-read s end p d t k n j r e f =
+    let g = row-at (partOf s end) p d (r .row) (r .there) in
+    let l : p + 16 ≤ end = omega (arith, g .at-least, g .at-fits) in
+    r .there
+    ∙ ap accepted (row-as (r .row) d p t k n j (g .at-depth) (g .at-place) (e ∙ sym (num-part s end p (omega arith)) ∙ g .at-kind) (f ∙ sym (num-part s end (p + 8) (omega arith)) ∙ g .at-parameter) (r .size) (r .members))
 
 -- WHAT IS PASSED, by what the structure and the walk inside it come to
 module _ (m : Part) (p d : ℕ) where
@@ -57,16 +51,17 @@ module _ (m : Part) (p d : ℕ) where
   pass-refused k q t = rw t refl
 
   module _ (r : Row) (t : structureAt m p d ≡ accepted r) where
-    pub pass-halt : (k q : ℕ) → endOf (walk m (p + r .size) (d + 1) (r .members)) ≡ refused k q → refused k q ≡ passed m p d
+    pub pass-halt : (k q : ℕ) → walk m (p + r .size) (d + 1) (r .members) ≡ refused k q → refused k q ≡ passed m p d
     unfolding passed
-    pass-halt k q e = rw (t, end-refused (walk m (p + r .size) (d + 1) (r .members)) k q e) refl
+    pass-halt k q e = rw (t, e) refl
 
-    pub pass-over : (q : ℕ) → endOf (walk m (p + r .size) (d + 1) (r .members)) ≡ accepted q → accepted (record { row = r; next = q }) ≡ passed m p d
+    pub pass-over : (rows : List Row) (q : ℕ) → walk m (p + r .size) (d + 1) (r .members) ≡ walked rows q
+        → accepted (record { row = r; next = q }) ≡ passed m p d
     unfolding passed
-    pass-over q e = let g = end-next (walk m (p + r .size) (d + 1) (r .members)) q e in rw (t, g .1, g .2) refl
+    pass-over rows q e = rw (t, e) refl
 
     pub pass-plain : r .members ≡ 0 → accepted (record { row = r; next = p + r .size }) ≡ passed m p d
-    pass-plain z = pass-over (p + r .size) (rw (z, walk-zero m (p + r .size) (d + 1)) refl)
+    pass-plain z = pass-over [] (p + r .size) (rw (z, walk-zero m (p + r .size) (d + 1)) refl)
 
 -- a structure that was passed over
 pub record Over (m : Part) (p d : ℕ) (r : Row) (q : ℕ) : Type 0 where
@@ -90,10 +85,6 @@ over m p d r q e =
     }
 
 -- ONE TURN of a walk
-turn : (m : Part) (p d n : ℕ) → 0 < n → walk m p d n ≡ enter (structureAt m p d) (λ r. walk m (p + r .size) (d + 1) (r .members)) (λ q. walk m q d (n - 1))
-turn m p d zero h = absurd (omega arith)
-turn m p d (suc n) h = let e : suc n - 1 ≡ n = omega arith in rw (e, add-one d) (walk-suc m p d n)
-
 -- the structure and the place behind it, from the walk inside it
 abbrev stepTo : Row → Walked → Result Stepped
 stepTo r w = accepted (record { row = r; next = w .next })
@@ -101,7 +92,7 @@ stepTo r w = accepted (record { row = r; next = w .next })
 module _ (m : Part) (p d n : ℕ) (due : 0 < n) where
   pub walk-halt : (k q : ℕ) → passed m p d ≡ refused k q → walk m p d n ≡ refused k q
   unfolding passed
-  walk-halt k q e = turn m p d n due ∙ go (structureAt m p d) e
+  walk-halt k q e = unfolded m p d n due ∙ go (structureAt m p d) e
     where
       inner : (r : Row) (w : Result Walked) → andThen w (stepTo r) ≡ refused k q
           → ahead r (andThen w (λ x. andThen (walk m (x .next) d (n - 1)) (λ y. walked (x .rows ++ y .rows) (y .next)))) ≡ refused k q
@@ -115,11 +106,7 @@ module _ (m : Part) (p d n : ℕ) (due : 0 < n) where
 
   pub walk-over : (r : Row) (q : ℕ) (o : Over m p d r q)
       → walk m p d n ≡ andThen (walk m q d (n - 1)) (λ y. walked (r ∷ (o .inside ++ y .rows)) (y .next))
-  walk-over r q o = turn m p d n due ∙ rw (o .there, o .within) (go (walk m q d (n - 1)))
-    where
-      go : (w : Result Walked) → ahead r (andThen w (λ y. walked (o .inside ++ y .rows) (y .next))) ≡ andThen w (λ y. walked (r ∷ (o .inside ++ y .rows)) (y .next))
-      go (accepted y) = refl
-      go (refused k q) = refl
+  walk-over r q o = walk-on m p d n due r (o .there) (o .inside) q (o .within)
 
 -- the place behind is not before the structure's end
 pub over-le : (m : Part) (p d : ℕ) (r : Row) (q : ℕ) → Over m p d r q → p + r .size ≤ q

@@ -1,10 +1,12 @@
 // Passing over a structure with all that is inside it.
 use answers::Refusal;
-use pcf::Ended;
-use pcf::Found;
+use pcf::Extent;
+use pcf::Passed;
+use pcf::Row;
 use pcf::Stepped;
-use pcf::siblings;
-use pcf::structure_at;
+use pcf::extent_at;
+use pcf::over;
+use wire::number_at;
 ghost use mathlib.Core.Path.{_≡_};
 ghost use Prim.Native.Nat.{_≤_};
 ghost use lib.ListN.{length};
@@ -17,19 +19,26 @@ pub fn pass(msg: &[u8], len: usize, place: usize, depth: u32) -> Stepped
     requires { ⌜ (len ≤ length (now msg)) × (len ≤ 65536) ⌝ }
     ensures { λ r. ⌜ steppedOf r ≡ passed (partOf (now (msg .entry)) len) place depth ⌝ }
 {
-    let found = structure_at(msg, len, place, depth);
+    let found = extent_at(msg, len, place, depth);
     match found {
-        Found::Refused(r) => Stepped::Refused(r),
-        Found::Structure(row) => {
-            let next = place + row.size as usize;
-            if row.members == 0 {
+        Extent::Refused(r) => Stepped::Refused(r),
+        Extent::Sound(size, members) => {
+            let row = Row {
+                depth,
+                place,
+                kind: number_at(msg, place),
+                parameter: number_at(msg, place + 8),
+                size,
+                members,
+            };
+            let next = place + size as usize;
+            if members == 0 {
                 return Stepped::Structure(row, next);
             }
-            let inner = siblings(msg, len, next, depth + 1, row.members, [0u32; 27]);
-            let ended = inner.ended;
-            match ended {
-                Ended::Refused(r) => Stepped::Refused(r),
-                Ended::Behind(behind) => Stepped::Structure(row, behind),
+            let inner = over(msg, len, next, depth + 1, members);
+            match inner {
+                Passed::Refused(r) => Stepped::Refused(r),
+                Passed::Behind(behind, _) => Stepped::Structure(row, behind),
             }
         }
     }

@@ -2,8 +2,7 @@
 use mathlib.Core.Path.{_∙_}
 use native.Mathlib.Omega.{arith}
 use borrow.Author.Needs.{needs}
-use Rattle.pcf.proofs.Answers.{ended-as}
-use Rattle.pcf.proofs.Counting.{zeros-low}
+use Rattle.pcf.proofs.Answers.{passed-as}
 use Rattle.reader.proofs.Tops.{too-short, too-long, by-walk}
 use Rattle.reader.proofs.nth_top.Statement.{statement}
 use Rattle.reader.proofs.nth_top.Tie as tie
@@ -14,9 +13,9 @@ nth-top-spec =
     (tie.spec
     (λ c. too-short _ _ (omega arith))
     (λ c. too-long _ _ (omega arith))
-    (λ c κs. record { there = omega arith; most = omega arith; low = zeros-low 27 36 })
+    (λ c κs. search needs)
     (λ c. search needs)
     (λ c κs. search needs)
     (λ c. search needs)
-    (λ c. c .look .ensures ∙ by-walk _ _ (omega arith) (omega arith) _ _ _ (ended-as (c .before .before .before .before .siblings .ensures) (c .before .before .ended .given .1)))
-    (λ c. by-walk _ _ (omega arith) (omega arith) _ _ _ (ended-as (c .before .before .before .siblings .ensures) (c .before .ended2 .given .1))))
+    (λ c. c .look .ensures ∙ by-walk _ _ (omega arith) (omega arith) _ (passed-as (c .before .before .before .before .over .ensures) (c .before .before .passed .given .1)))
+    (λ c. by-walk _ _ (omega arith) (omega arith) _ (passed-as (c .before .before .before .over .ensures) (c .before .passed2 .given .1))))

@@ -2,8 +2,7 @@
 use mathlib.Core.Path.{sym, _∙_}
 use native.Mathlib.Omega.{arith}
 use borrow.Author.Needs.{needs}
-use Rattle.pcf.proofs.Answers.{ended-as}
-use Rattle.pcf.proofs.Counting.{zeros-low}
+use Rattle.pcf.proofs.Answers.{passed-as}
 use Rattle.event.proofs.Groups.{too-short, too-long, no-group, no-activity, by-walk}
 use Rattle.event.proofs.group.group_ok.Statement.{statement}
 use Rattle.event.proofs.group.group_ok.Tie as tie
@@ -22,20 +21,17 @@ returns-4 c =
     no-activity _ (omega arith) (omega arith) (sym (c .before .before .before .number-at .ensures) ∙ c .before .before .if3 .left)
     (λ e. c .if4 .taken (c .before .number-at2 .ensures ∙ e))
 
-siblings-requires : tie.Need-siblings-requires
-siblings-requires c κs = record { there = omega arith; most = omega arith; low = zeros-low 27 0 }
-
 returns-5 : tie.Need-returns-5
 returns-5 c =
     by-walk _ (omega arith) (omega arith) (sym (c .before .before .before .before .before .before .before .number-at .ensures) ∙ c .before .before .before .before .before .before .if3 .left)
-    (sym (c .before .before .before .before .before .number-at2 .ensures) ∙ c .before .before .before .before .if4 .left) _ _ _
-    (ended-as (c .before .before .before .siblings .ensures) (c .before .ended .given .1))
+    (sym (c .before .before .before .before .before .number-at2 .ensures) ∙ c .before .before .before .before .if4 .left) _
+    (passed-as (c .before .before .before .over .ensures) (c .before .passed .given .1))
 
 returns-6 : tie.Need-returns-6
 returns-6 c =
     by-walk _ (omega arith) (omega arith) (sym (c .before .before .before .before .before .before .number-at .ensures) ∙ c .before .before .before .before .before .if3 .left)
-    (sym (c .before .before .before .before .number-at2 .ensures) ∙ c .before .before .before .if4 .left) _ _ _
-    (ended-as (c .before .before .siblings .ensures) (c .enum-told .given .1))
+    (sym (c .before .before .before .before .number-at2 .ensures) ∙ c .before .before .before .if4 .left) _
+    (passed-as (c .before .before .over .ensures) (c .enum-told .given .1))
 
 pub group-ok-spec : {M : Type 1} → statement M
 group-ok-spec =
@@ -47,7 +43,7 @@ group-ok-spec =
     returns-3
     (λ c κs. search needs)
     returns-4
-    siblings-requires
+    (λ c κs. search needs)
     (λ c. search needs)
     (λ c. search needs)
     returns-5

@@ -5,7 +5,7 @@ use denote.Ref.{now}
 use Rattle.meaning.specs.Message.{partOf}
 use Rattle.pcf.proofs.Answers.{ended-as}
 use Rattle.pcf.proofs.Counting.{zeros-low}
-use Rattle.pcf.proofs.Closes.{Counted, counted-rows, closed-sound, closed-long, closed-fault}
+use Rattle.pcf.proofs.Closes.{Counted, counted-rows, counted-end, closed-long, closed-fault}
 use Rattle.pcf.proofs.message.structures.Statement.{statement}
 use Rattle.pcf.proofs.message.structures.Tie as tie
 
@@ -21,8 +21,8 @@ structures-spec =
     (λ c. search needs)
     (λ c κs. search needs)
     (λ c. search needs)
-    (λ c κs. omega (arith, met (c .before .before .before) .number, met (c .before .before .before) .room, c .before .if1 .taken, c .before .before .before .before .before .before .before .pre .1))
+    (λ c κs. omega (arith, met (c .before .before .before) .past .number, met (c .before .before .before) .past .room, c .before .if1 .taken, c .before .before .before .before .before .before .before .pre .1))
     (λ c κs. search needs)
     (λ c. rw (closed-fault _ _ _ _ (c .before .before .before .before .before .before .args .len) _ _ _ (ended-as (c .before .before .before .before .siblings .ensures) (c .before .before .ended .given .1))) (c .refused .ensures))
-    (λ c. closed-sound _ _ _ _ _ _ _ (met (c .before .before .before .before)) (c .before .before .if1 .taken) _ (c .total .ensures))
-    (λ c. rw (closed-long _ _ _ _ _ _ _ (met (c .before .before .before)) (c .before .if1 .left)) (c .refused2 .ensures)))
+    (λ c. counted-end _ _ _ _ _ _ _ (met (c .before .before .before .before)) (c .before .before .if1 .taken) _ (c .total .ensures))
+    (λ c. rw (closed-long _ _ _ _ _ _ _ (met (c .before .before .before) .past) (c .before .if1 .left)) (c .refused2 .ensures)))

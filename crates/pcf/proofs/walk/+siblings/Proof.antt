@@ -17,7 +17,7 @@ use Rattle.meaning.specs.Structure.{structureAt}
 use Rattle.pcf.specs.Rows.{rowOf}
 use Rattle.pcf.specs.Tallies.{raised, tallied, Low}
 use Rattle.pcf.proofs.Answers.{is-row, is-refusal, ended-as}
-use Rattle.pcf.proofs.Turns.{raised-low, came-low, turn-none, turn-refused, turn-on, turn-halt, turn-plain}
+use Rattle.pcf.proofs.Tallying.{raised-low, came-low, turn-none, turn-refused, turn-on, turn-halt, turn-plain}
 use Rattle.pcf.proofs.walk.siblings.Reads as siblings
 use Rattle.pcf.proofs.walk.siblings.Kinds as siblings-kinds
 use Rattle.pcf.proofs.walk.+siblings.Lts-siblings as siblings-lts
