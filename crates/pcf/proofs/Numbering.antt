@@ -9,7 +9,7 @@ use Rattle.meaning.specs.Answer.{Result, accepted, refused, andThen}
 use Rattle.meaning.specs.Structure.{Row, structureAt}
 use Rattle.meaning.specs.Walk.{Walked, walked, walk}
 use Rattle.meaning.proofs.Tests.{then-accepted}
-use Rattle.meaning.proofs.Walks.{Walks, walks}
+use Rattle.meaning.proofs.Walks.{walks}
 use Rattle.meaning.proofs.Fuel.{walk-zero}
 use Rattle.meaning.proofs.Tallies.{rows-room}
 use Rattle.meaning.proofs.Lines.{walks-end}

@@ -1,7 +1,7 @@
 -- `passing::over` meets its contract. The invariant: what the walk from here comes to, with the structures so far, is what the
 -- whole walk comes to, and these are no more than the place. It ends because the loop's count falls, and because no group is
 -- deeper than 8.
-use mathlib.Core.Path.{_≡_, refl, sym, _∙_}
+use mathlib.Core.Path.{_≡_, sym, _∙_}
 use mathlib.Core.Logic.{⊎-elim}
 use Prim.Native.Nat.{ℕ, _+_, _-_, _≤_, _<_}
 use native.Mathlib.Omega.{arith}

@@ -1,6 +1,6 @@
 -- `walk::siblings` meets its contract. The invariant: what the walk from here comes to is what the whole walk comes to, and no
 -- count is above the place. It ends because the loop's count falls, and because no group is deeper than 8.
-use mathlib.Core.Path.{_≡_, refl, sym, ap, _∙_}
+use mathlib.Core.Path.{_≡_, refl, sym, _∙_}
 use mathlib.Core.Logic.{⊎-elim}
 use Prim.Native.Nat.{ℕ, _+_, _-_, _≤_, _<_}
 use native.Mathlib.Omega.{arith}
