@@ -3,6 +3,7 @@ mod Lengths
 mod Soundness
 mod Counting
 pub mod Answers
+pub mod Extents
 pub mod Turns
 mod Tallying
 pub mod Numbering
