@@ -1,13 +1,12 @@
 -- What is told of the meaning's answer by the case of an enum that the code has in hand.
 use mathlib.Core.Path.{_≡_, sym, ap, _∙_}
 use Prim.Native.Nat.{ℕ}
-use Rattle.meaning.specs.Bytes.{Part}
 use Rattle.meaning.specs.Answer.{Result, accepted, refused, andThen}
-use Rattle.meaning.specs.Structure.{Row as Structure, structureAt}
-use Rattle.meaning.proofs.Tests.{clash, then-accepted}
+use Rattle.meaning.specs.Structure.{Row as Structure}
+use Rattle.meaning.proofs.Tests.{clash}
 use Rattle.answers.specs.Refusals.{refusal}
 use Rattle.answers.specs.declared.Refusal.{Refusal}
-use Rattle.pcf.specs.Rows.{rowOf, foundOf, Reach, reachOf, extentOf}
+use Rattle.pcf.specs.Rows.{rowOf, foundOf}
 use Rattle.pcf.specs.Tallies.{Tally, endedOf, walkedOf}
 use Rattle.pcf.specs.Passings.{Passage, passedOf}
 use Rattle.pcf.specs.Messages.{openedOf}
@@ -15,8 +14,6 @@ use Rattle.pcf.specs.declared.message.Opening.{Opening}
 use Rattle.pcf.specs.declared.structure.Row.{Row}
 use Rattle.pcf.specs.declared.structure.Found.{Found}
 use Rattle.pcf.specs.declared.structure.Found.the-variants as found
-use Rattle.pcf.specs.declared.structure.Extent.{Extent}
-use Rattle.pcf.specs.declared.structure.Extent.the-variants as extent
 use Rattle.pcf.specs.declared.passing.Passed.{Passed}
 use Rattle.pcf.specs.declared.walk.Ended.{Ended}
 use Rattle.pcf.specs.declared.walk.Ended.the-variants as ended
@@ -33,22 +30,6 @@ is-refusal e h = sym e ∙ ap foundOf h
 pub then-refused : {A B : Type 0} (r : Result A) (f : A → B) (k q : ℕ) → andThen r (λ x. accepted (f x)) ≡ refused k q → r ≡ refused k q
 then-refused (accepted x) f k q e = absurd (clash (cc))
 then-refused (refused k′ q′) f k q e = cc
-
--- a sound structure of the length n with k members
-pub record Reaches (m : Part) (p d n k : ℕ) : Type 0 where
-  pub row : Structure
-  pub there : structureAt m p d ≡ accepted row
-  pub size : row .size ≡ n
-  pub members : row .members ≡ k
-
-pub reaches : {f : Extent} (m : Part) (p d : ℕ) {n k : ℕ} → extentOf f ≡ reachOf (structureAt m p d) → f ≡ extent.Sound n k → Reaches m p d n k
-reaches m p d {n} {k} e h =
-    let f = then-accepted (structureAt m p d) (λ r. accepted (record { size = r .size; members = r .members })) (record { size = n; members = k }) (sym e ∙ ap extentOf h) in
-    let g : _≡_ {A = Reach} (record { size = f .0 .size; members = f .0 .members }) (record { size = n; members = k }) = cc (f .2) in
-    record { row = f .0; there = f .1; size = ap (λ (x : Reach). x .size) g; members = ap (λ (x : Reach). x .members) g }
-
-pub reaches-none : {f : Extent} {x : Result Structure} {q : Refusal} → extentOf f ≡ reachOf x → f ≡ extent.Refused q → x ≡ refusal q
-reaches-none {f} {x} {q} e h = then-refused x (λ r. record { size = r .size; members = r .members }) _ _ (sym e ∙ ap extentOf h)
 
 -- a walk that ended, and what its end is
 pub ended-as : {w : Walked} {x : Tally} {e : Ended} → walkedOf w ≡ x → w .ended ≡ e → record { ended = endedOf e; counts = w .tally } ≡ x

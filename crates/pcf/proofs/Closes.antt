@@ -2,13 +2,13 @@
 use mathlib.Core.Path.{_≡_, refl, sym, ap, _∙_}
 use mathlib.Core.List.{List, sum}
 use Prim.Native.Nat.{ℕ, _+_}
-use lib.ListN.{length, replicate}
+use lib.ListN.{replicate}
 use borrow.Author.Tests.{eq-eqb, ne-eqb}
 use Rattle.meaning.specs.Bytes.{Part}
 use Rattle.meaning.specs.Names.{leftOver}
 use Rattle.meaning.specs.Answer.{accepted, refused, andThen}
 use Rattle.meaning.specs.Walk.{walked, walk}
-use Rattle.meaning.specs.Message.{partOf, closed, scan, check, countsFrom, types}
+use Rattle.meaning.specs.Message.{partOf, closed, check, countsFrom, types}
 use Rattle.meaning.proofs.Walks.{walks}
 use Rattle.meaning.proofs.Tallies.{total-counts, walks-kinds}
 use Rattle.pcf.specs.Tallies.{tallied}

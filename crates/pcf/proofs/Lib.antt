@@ -1,11 +1,12 @@
 mod Wide
 mod Lengths
 mod Soundness
-pub mod Counting
+mod Counting
 pub mod Answers
+pub mod Extents
 pub mod Turns
-pub mod Tallying
+mod Tallying
 pub mod Numbering
-pub mod Openings
+mod Openings
 mod Sums
-pub mod Closes
+mod Closes

@@ -9,12 +9,13 @@ use Rattle.meaning.specs.Answer.{Result, accepted, refused, andThen}
 use Rattle.meaning.specs.Structure.{Row, structureAt}
 use Rattle.meaning.specs.Walk.{Walked, walked, walk}
 use Rattle.meaning.proofs.Tests.{then-accepted}
-use Rattle.meaning.proofs.Walks.{Walks, walks}
+use Rattle.meaning.proofs.Walks.{walks}
 use Rattle.meaning.proofs.Fuel.{walk-zero}
 use Rattle.meaning.proofs.Tallies.{rows-room}
 use Rattle.meaning.proofs.Lines.{walks-end}
 use Rattle.pcf.specs.Passings.{Passage, passage}
-use Rattle.pcf.proofs.Answers.{Reaches, then-refused}
+use Rattle.pcf.proofs.Answers.{then-refused}
+use Rattle.pcf.proofs.Extents.{Reaches}
 use Rattle.pcf.proofs.Turns.{behind, walk-refused, walk-halt, walk-on}
 
 -- a walk that came to q, over k structures
@@ -71,20 +72,16 @@ module _ (m : Part) (p d n k : ℕ) (due : 0 < n) where
   number-refused j q e = ap (numbered k) (walk-refused m p d n due j q e)
 
   module _ (size members : ℕ) (r : Reaches m p d size members) where
-    -- the walk inside, with the numbers that were read
-    inside : walk m (p + r .row .size) (d + 1) (r .row .members) ≡ walk m (p + size) (d + 1) members
-    inside = rw (r .size, r .members) refl
-
-    -- it came to q, over j structures
+    -- the walk inside it came to q, over j structures
     pub number-on : (q j : ℕ) → Past m (p + size) (d + 1) members q j → numbered k (walk m p d n) ≡ numbered (k + 1 + j) (walk m q d (n - 1))
     number-on q j w =
         let e : k + length (r .row ∷ w .rows) ≡ k + 1 + j = omega (arith, w .number) in
-        ap (numbered k) (walk-on m p d n due (r .row) (r .there) (w .rows) q (inside ∙ w .over))
+        ap (numbered k) (walk-on m p d n due size members r (w .rows) q (w .over))
         ∙ numbered-behind k (r .row ∷ w .rows) (walk m q d (n - 1)) ∙ ap (λ (i : ℕ). numbered i (walk m q d (n - 1))) e
 
     -- it met a fault
     pub number-halt : (j q : ℕ) → walk m (p + size) (d + 1) members ≡ refused j q → numbered k (walk m p d n) ≡ refused j q
-    number-halt j q w = ap (numbered k) (walk-halt m p d n due (r .row) (r .there) j q (inside ∙ w))
+    number-halt j q w = ap (numbered k) (walk-halt m p d n due size members r j q w)
 
     -- there is nothing inside
     pub number-plain : members ≡ 0 → numbered k (walk m p d n) ≡ numbered (k + 1) (walk m (p + size) d (n - 1))

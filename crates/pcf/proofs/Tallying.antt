@@ -10,11 +10,11 @@ use Rattle.meaning.specs.Structure.{Row, structureAt}
 use Rattle.meaning.specs.Walk.{Walked, walk}
 use Rattle.meaning.specs.Message.{types}
 use Rattle.meaning.proofs.Tests.{clash}
-use Rattle.meaning.proofs.Structures.{row-at}
 use Rattle.meaning.proofs.Walks.{walks}
 use Rattle.meaning.proofs.Fuel.{walk-zero}
 use Rattle.meaning.proofs.Tallies.{rows-room}
 use Rattle.pcf.specs.Tallies.{added, raised, Tally, tallied, Low}
+use Rattle.pcf.proofs.Extents.{Reaches, reach-least}
 use Rattle.pcf.proofs.Counting.{added-nil, added-append, raised-added, added-low}
 use Rattle.pcf.proofs.Turns.{behind, walk-refused, walk-halt, walk-on}
 
@@ -54,10 +54,10 @@ came-low m p d n t q u e low =
     told t (walk m p d n) q u e
     (λ x w eq eu. rw (eq, eu) (added-low t p (x .rows) (x .next) low (omega (arith, rows-room (walks m p d n (x .rows) (x .next) w)))))
 
--- nor above the next place, once a row is counted
-pub raised-low : (m : Part) (p d : ℕ) (r : Row) → structureAt m p d ≡ accepted r → (t : List ℕ) → Low t p → Low (raised t (r .kind)) (p + r .size)
-raised-low m p d r e t low =
-    rw (raised-added t r) (added-low t p (r ∷ []) (p + r .size) low (omega (arith, (row-at m p d r e) .at-least)))
+-- nor above the next place, once a structure is counted
+pub raised-low : (m : Part) (p d size members kind : ℕ) (r : Reaches m p d size members) → kind ≡ r .row .kind → (t : List ℕ) → Low t p → Low (raised t kind) (p + size)
+raised-low m p d size members kind r k t low =
+    rw (k, raised-added t (r .row)) (added-low t p (r .row ∷ []) (p + size) low (omega (arith, reach-least r)))
 
 -- no structure is due
 pub turn-none : (m : Part) (p d : ℕ) (t : List ℕ) → came p t ≡ tallied t (walk m p d 0)
@@ -67,24 +67,24 @@ module _ (m : Part) (p d n : ℕ) (t : List ℕ) (due : 0 < n) where
   pub turn-refused : (k q : ℕ) → structureAt m p d ≡ refused k q → tallied t (walk m p d n) ≡ fault k q
   turn-refused k q e = ap (tallied t) (walk-refused m p d n due k q e)
 
-  module _ (r : Row) (e : structureAt m p d ≡ accepted r) where
+  module _ (size members kind : ℕ) (r : Reaches m p d size members) (k : kind ≡ r .row .kind) where
     -- what the walk inside comes to
     abbrev inside : Tally
-    inside = tallied (raised t (r .kind)) (walk m (p + r .size) (d + 1) (r .members))
+    inside = tallied (raised t kind) (walk m (p + size) (d + 1) members)
 
     -- it came to q with the counts u
     pub turn-on : (q : ℕ) (u : List ℕ) → came q u ≡ inside → tallied t (walk m p d n) ≡ tallied u (walk m q d (n - 1))
     turn-on q u h =
-        told (raised t (r .kind)) (walk m (p + r .size) (d + 1) (r .members)) q u h
+        told (raised t kind) (walk m (p + size) (d + 1) members) q u h
         (λ x w eq eu.
-        ap (tallied t) (walk-on m p d n due r e (x .rows) (x .next) w)
-        ∙ rw (eq, eu, raised-added t r, added-append 0 t (r ∷ []) (x .rows)) (tallied-behind t (r ∷ x .rows) (walk m (x .next) d (n - 1))))
+        ap (tallied t) (walk-on m p d n due size members r (x .rows) (x .next) w)
+        ∙ rw (eq, eu, k, raised-added t (r .row), added-append 0 t (r .row ∷ []) (x .rows)) (tallied-behind t (r .row ∷ x .rows) (walk m (x .next) d (n - 1))))
 
     -- it met a fault
-    pub turn-halt : (k q : ℕ) (u : List ℕ) → record { ended = refused k q; counts = u } ≡ inside → tallied t (walk m p d n) ≡ fault k q
-    turn-halt k q u h =
-        ap (tallied t) (walk-halt m p d n due r e k q (halted (raised t (r .kind)) (walk m (p + r .size) (d + 1) (r .members)) k q u h))
+    pub turn-halt : (j q : ℕ) (u : List ℕ) → record { ended = refused j q; counts = u } ≡ inside → tallied t (walk m p d n) ≡ fault j q
+    turn-halt j q u h =
+        ap (tallied t) (walk-halt m p d n due size members r j q (halted (raised t kind) (walk m (p + size) (d + 1) members) j q u h))
 
     -- there is nothing inside
-    pub turn-plain : r .members ≡ 0 → tallied t (walk m p d n) ≡ tallied (raised t (r .kind)) (walk m (p + r .size) d (n - 1))
-    turn-plain z = turn-on (p + r .size) (raised t (r .kind)) (rw z (turn-none m (p + r .size) (d + 1) (raised t (r .kind))))
+    pub turn-plain : members ≡ 0 → tallied t (walk m p d n) ≡ tallied (raised t kind) (walk m (p + size) d (n - 1))
+    turn-plain z = turn-on (p + size) (raised t kind) (rw z (turn-none m (p + size) (d + 1) (raised t kind)))

@@ -1,5 +1,5 @@
 -- One turn of the walk: a structure, what is inside it, then the rest. Both walks of the code go by these laws.
-use mathlib.Core.Path.{_≡_, refl}
+use mathlib.Core.Path.{_≡_, refl, _∙_}
 use mathlib.Core.List.{List, _∷_, _++_}
 use Prim.Native.Nat.{ℕ, zero, suc, _+_, _-_, _<_}
 use native.Mathlib.Numerals.{add-one}
@@ -9,6 +9,7 @@ use Rattle.meaning.specs.Answer.{Result, accepted, refused, andThen}
 use Rattle.meaning.specs.Structure.{Row, structureAt}
 use Rattle.meaning.specs.Walk.{Walked, walked, ahead, enter, walk}
 use Rattle.meaning.proofs.Fuel.{walk-suc}
+use Rattle.pcf.proofs.Extents.{Reaches}
 
 -- a walk with these rows in front
 abbrev pub behind : List Row → Result Walked → Result Walked
@@ -32,12 +33,16 @@ module _ (m : Part) (p d n : ℕ) (due : 0 < n) where
   pub walk-refused : (k q : ℕ) → structureAt m p d ≡ refused k q → walk m p d n ≡ refused k q
   walk-refused k q e = rw (unfolded m p d n due, e) refl
 
-  module _ (r : Row) (e : structureAt m p d ≡ accepted r) where
-    -- the walk inside it met a fault
-    pub walk-halt : (k q : ℕ) → walk m (p + r .size) (d + 1) (r .members) ≡ refused k q → walk m p d n ≡ refused k q
-    walk-halt k q w = rw (unfolded m p d n due, e, w) refl
+  module _ (size members : ℕ) (r : Reaches m p d size members) where
+    -- the walk inside it, with the numbers that were read
+    inside : walk m (p + r .row .size) (d + 1) (r .row .members) ≡ walk m (p + size) (d + 1) members
+    inside = rw (r .size, r .members) refl
+
+    -- it met a fault
+    pub walk-halt : (k q : ℕ) → walk m (p + size) (d + 1) members ≡ refused k q → walk m p d n ≡ refused k q
+    walk-halt k q w = rw (unfolded m p d n due, r .there, inside ∙ w) refl
 
     -- it came to q
-    pub walk-on : (rows : List Row) (q : ℕ) → walk m (p + r .size) (d + 1) (r .members) ≡ walked rows q
-        → walk m p d n ≡ behind (r ∷ rows) (walk m q d (n - 1))
-    walk-on rows q w = rw (unfolded m p d n due, e, w) (in-front r rows (walk m q d (n - 1)))
+    pub walk-on : (rows : List Row) (q : ℕ) → walk m (p + size) (d + 1) members ≡ walked rows q
+        → walk m p d n ≡ behind (r .row ∷ rows) (walk m q d (n - 1))
+    walk-on rows q w = rw (unfolded m p d n due, r .there, inside ∙ w) (in-front (r .row) rows (walk m q d (n - 1)))

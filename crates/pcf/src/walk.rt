@@ -1,8 +1,9 @@
 // The walk over structures and all that is inside them, which counts them by their types. Only the tally needs the counts:
 // all others pass over structures without them.
-use crate::structure::Found;
-use crate::structure::structure_at;
+use crate::structure::Extent;
+use crate::structure::extent_at;
 use answers::Refusal;
+use wire::number_at;
 ghost use mathlib.Core.Path.{_≡_};
 ghost use lib.ListN.{replicate};
 ghost use Rattle.meaning.specs.Message.{partOf, types};
@@ -49,18 +50,18 @@ pub fn siblings(
     let mut left = count;
     let mut t = tally;
     while 0 < left {
-        let found = structure_at(s, end, at, depth);
+        let found = extent_at(s, end, at, depth);
         match found {
-            Found::Refused(r) => {
+            Extent::Refused(r) => {
                 return stopped(r);
             }
-            Found::Structure(row) => {
-                let kind = row.kind as usize;
+            Extent::Sound(size, members) => {
+                let kind = number_at(s, at) as usize;
                 t[kind] = t[kind] + 1;
-                at = at + row.size as usize;
-                if row.members != 0 {
+                at = at + size as usize;
+                if members != 0 {
                     // a group: its members come first
-                    let inner = siblings(s, end, at, depth + 1, row.members, t);
+                    let inner = siblings(s, end, at, depth + 1, members, t);
                     let ended = inner.ended;
                     match ended {
                         Ended::Refused(r) => {

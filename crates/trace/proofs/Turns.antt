@@ -3,19 +3,16 @@ use mathlib.Core.Path.{_≡_, refl, sym, ap, _∙_}
 use mathlib.Core.List.{List, [], _∷_, _++_}
 use Prim.Native.Nat.{ℕ, _+_, _-_, _≤_, _<_}
 use native.Mathlib.Omega.{arith}
-use Rattle.meaning.specs.Bytes.{Part, number}
+use Rattle.meaning.specs.Bytes.{Part}
 use Rattle.meaning.specs.Answer.{Result, accepted, refused, andThen}
 use Rattle.meaning.specs.Structure.{Row, structureAt}
 use Rattle.meaning.specs.Walk.{Walked, walked, ahead, enter, walk}
-use Rattle.meaning.specs.Message.{Stepped, partOf}
+use Rattle.meaning.specs.Message.{Stepped}
 use Rattle.meaning.proofs.Tests.{clash, then-accepted}
 use Rattle.meaning.proofs.Walks.{walks, walks-le}
 use Rattle.meaning.proofs.Fuel.{walk-zero}
-use Rattle.meaning.proofs.Parts.{num-part}
-use Rattle.meaning.proofs.Structures.{row-at}
 use Rattle.pcf.specs.Rows.{rowOf}
 use Rattle.pcf.specs.Messages.{steppedOf}
-use Rattle.pcf.proofs.Answers.{Reaches}
 use Rattle.pcf.proofs.Turns.{unfolded, walk-on}
 use Rattle.answers.specs.declared.Refusal.{Refusal}
 use Rattle.answers.specs.Refusals.{refusal}
@@ -30,19 +27,6 @@ is-step e h = sym e ∙ ap steppedOf h
 
 pub is-stop : {f : Steps} {x : Result Stepped} {q : Refusal} → steppedOf f ≡ x → f ≡ steps.Refused q → x ≡ refusal q
 is-stop e h = sym e ∙ ap steppedOf h
-
--- the row of a sound structure, with the numbers that were read
-row-as : (r : Row) (d p t k n j : ℕ) → d ≡ r .depth → p ≡ r .place → t ≡ r .kind → k ≡ r .parameter → r .size ≡ n → r .members ≡ j
-    → r ≡ record { depth = d; place = p; kind = t; parameter = k; size = n; members = j }
-row-as r d p t k n j a b c e f g = rw (a, b, c, e, ← f, ← g) refl
-
-pub row-read : (s : List ℕ) (end p d t k n j : ℕ) → Reaches (partOf s end) p d n j → t ≡ number s p → k ≡ number s (p + 8)
-    → structureAt (partOf s end) p d ≡ accepted (record { depth = d; place = p; kind = t; parameter = k; size = n; members = j })
-row-read s end p d t k n j r e f =
-    let g = row-at (partOf s end) p d (r .row) (r .there) in
-    let l : p + 16 ≤ end = omega (arith, g .at-least, g .at-fits) in
-    r .there
-    ∙ ap accepted (row-as (r .row) d p t k n j (g .at-depth) (g .at-place) (e ∙ sym (num-part s end p (omega arith)) ∙ g .at-kind) (f ∙ sym (num-part s end (p + 8) (omega arith)) ∙ g .at-parameter) (r .size) (r .members))
 
 -- WHAT IS PASSED, by what the structure and the walk inside it come to
 module _ (m : Part) (p d : ℕ) where
@@ -106,7 +90,8 @@ module _ (m : Part) (p d n : ℕ) (due : 0 < n) where
 
   pub walk-over : (r : Row) (q : ℕ) (o : Over m p d r q)
       → walk m p d n ≡ andThen (walk m q d (n - 1)) (λ y. walked (r ∷ (o .inside ++ y .rows)) (y .next))
-  walk-over r q o = walk-on m p d n due r (o .there) (o .inside) q (o .within)
+  walk-over r q o =
+      walk-on m p d n due (r .size) (r .members) (record { row = r; there = o .there; size = refl; members = refl }) (o .inside) q (o .within)
 
 -- the place behind is not before the structure's end
 pub over-le : (m : Part) (p d : ℕ) (r : Row) (q : ℕ) → Over m p d r q → p + r .size ≤ q

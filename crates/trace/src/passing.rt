@@ -1,5 +1,4 @@
 // Passing over a structure with all that is inside it.
-use answers::Refusal;
 use pcf::Extent;
 use pcf::Passed;
 use pcf::Row;

@@ -1,7 +1,7 @@
 -- `passing::over` meets its contract. The invariant: what the walk from here comes to, with the structures so far, is what the
 -- whole walk comes to, and these are no more than the place. It ends because the loop's count falls, and because no group is
 -- deeper than 8.
-use mathlib.Core.Path.{_≡_, refl, sym, _∙_}
+use mathlib.Core.Path.{_≡_, sym, _∙_}
 use mathlib.Core.Logic.{⊎-elim}
 use Prim.Native.Nat.{ℕ, _+_, _-_, _≤_, _<_}
 use native.Mathlib.Omega.{arith}
@@ -11,10 +11,9 @@ use borrow.Fn.PlainCycle.{Measures, is, falls, and}
 use denote.Ref.{now}
 use Rattle.meaning.specs.Walk.{walk}
 use Rattle.meaning.specs.Message.{partOf}
-use Rattle.meaning.proofs.Structures.{row-at}
-use Rattle.meaning.proofs.Members.{members-shallow}
 use Rattle.pcf.specs.Passings.{passage}
-use Rattle.pcf.proofs.Answers.{Reaches, reaches, reaches-none, passed-as}
+use Rattle.pcf.proofs.Answers.{passed-as}
+use Rattle.pcf.proofs.Extents.{Reaches, reaches, reaches-none, reach-fits, reach-least, reach-shallow}
 use Rattle.pcf.proofs.Numbering.{numbered, number-all, past, past-fault, number-none, number-refused, number-on, number-halt, number-plain}
 use Rattle.pcf.proofs.passing.over.Reads as over
 use Rattle.pcf.proofs.passing.over.Kinds as over-kinds
@@ -54,19 +53,12 @@ met : (t : ℕ) (f : Met t)
 met t f = reaches _ _ _ (f .before .before .before .extent-at .ensures) (f .before .found2 .given .1)
 
 -- the place behind it is at most 65,536
-fits : (t : ℕ) (f : Met t) → f .before .before .before .before .before .loop .at + f .before .found2 .given .0 .0 ≤ f .before .before .before .before .before .before .before .args .end
-fits t f = let r = met t f in omega (arith, row-at _ _ _ _ (r .there) .at-fits, r .size)
-
 bound : (t : ℕ) (f : Met t) → f .before .before .before .before .before .loop .at + f .before .found2 .given .0 .0 ≤ 65536
-bound t f = omega (arith, fits t f, f .before .before .before .before .before .before .before .pre .1 .1)
+bound t f = omega (arith, reach-fits (met t f), f .before .before .before .before .before .before .before .pre .1 .1)
 
 -- and there is one structure more before it
 more : (t : ℕ) (f : Met t) → f .before .before .before .before .before .loop .n + 1 ≤ f .before .before .before .before .before .loop .at + f .before .found2 .given .0 .0
-more t f = let r = met t f in omega (arith, row-at _ _ _ _ (r .there) .at-least, r .size, f .before .before .before .before .before .loop .inv .1)
-
--- a group is no deeper than 8
-shallow : (t : ℕ) (f : Met t) → (f .before .found2 .given .0 .1 .0 ≡ 0 → ⊥) → f .before .before .before .before .before .before .before .args .depth ≤ 8
-shallow t f h = let r = met t f in members-shallow _ _ _ _ (r .there) (omega (arith, r .members))
+more t f = omega (arith, reach-least (met t f), f .before .before .before .before .before .loop .inv .1)
 
 pub +over-spec : {M : Type 1} → statement M
 +over-spec = close μ-over λ t. over-lts.spec (
@@ -92,10 +84,10 @@ pub +over-spec : {M : Type 1} → statement M
     (λ c. omega (arith, bound t c))
     (λ c. omega (arith, bound t c))
     -- the members of a group
-    (λ c. omega (arith, shallow t (c .before) (c .if1 .taken)))
+    (λ c. omega (arith, reach-shallow (met t (c .before)) (c .if1 .taken)))
     (λ c κs.
     let s = c .before .before .before .before .before .before .before .before .pre in
-    (omega (arith, s .0, shallow t (c .before) (c .if1 .taken)), s .1))
+    (omega (arith, s .0, reach-shallow (met t (c .before)) (c .if1 .taken)), s .1))
     (λ c. search needs)
     -- the walk inside met a fault
     (λ c.
@@ -107,7 +99,7 @@ pub +over-spec : {M : Type 1} → statement M
     (λ c.
     let f = c .before .before .before .before .before in
     let w = past _ _ _ _ _ _ (passed-as (c .before .before .before .over .ensures) (c .before .inner2 .given .1)) in
-    omega (arith, more t f, w .room, w .end (fits t f), f .before .before .before .before .before .before .before .pre .1 .1))
+    omega (arith, more t f, w .room, w .end (reach-fits (met t f)), f .before .before .before .before .before .before .before .pre .1 .1))
     -- one structure fewer is due
     (λ c. omega arith)
     (λ c. omega (arith, c .before .before .before .before .before .loop-test .taken))

@@ -6,7 +6,7 @@ use borrow.Author.Needs.{needs}
 use denote.Ref.{now}
 use Rattle.meaning.specs.Message.{partOf}
 use Rattle.meaning.proofs.Structures.{structure-short}
-use Rattle.pcf.specs.Rows.{soundIn, reachOf}
+use Rattle.pcf.specs.Rows.{reachOf}
 use Rattle.pcf.proofs.Soundness.{tested}
 use Rattle.pcf.proofs.structure.extent_at.Statement.{statement}
 use Rattle.pcf.proofs.structure.extent_at.Tie as tie

@@ -1,6 +1,6 @@
 -- `walk::siblings` meets its contract. The invariant: what the walk from here comes to is what the whole walk comes to, and no
 -- count is above the place. It ends because the loop's count falls, and because no group is deeper than 8.
-use mathlib.Core.Path.{_≡_, refl, sym, ap, _∙_}
+use mathlib.Core.Path.{_≡_, refl, sym, _∙_}
 use mathlib.Core.Logic.{⊎-elim}
 use Prim.Native.Nat.{ℕ, _+_, _-_, _≤_, _<_}
 use native.Mathlib.Omega.{arith}
@@ -10,19 +10,16 @@ use borrow.Fn.PlainCycle.{Measures, is, falls, and}
 use denote.Ref.{now}
 use Rattle.meaning.specs.Walk.{walk}
 use Rattle.meaning.specs.Message.{partOf}
-use Rattle.meaning.proofs.Structures.{RowAt, row-at}
-use Rattle.meaning.proofs.Members.{members-shallow}
-use Rattle.meaning.specs.Answer.{accepted}
-use Rattle.meaning.specs.Structure.{structureAt}
-use Rattle.pcf.specs.Rows.{rowOf}
 use Rattle.pcf.specs.Tallies.{raised, tallied, Low}
-use Rattle.pcf.proofs.Answers.{is-row, is-refusal, ended-as}
+use Rattle.pcf.proofs.Answers.{ended-as}
+use Rattle.pcf.proofs.Extents.{Reaches, reaches, reaches-none, reach-fits, reach-least, reach-type, reach-shallow, reach-kind}
 use Rattle.pcf.proofs.Tallying.{raised-low, came-low, turn-none, turn-refused, turn-on, turn-halt, turn-plain}
 use Rattle.pcf.proofs.walk.siblings.Reads as siblings
 use Rattle.pcf.proofs.walk.siblings.Kinds as siblings-kinds
 use Rattle.pcf.proofs.walk.+siblings.Lts-siblings as siblings-lts
-use Rattle.pcf.proofs.structure.structure_at.Reads as structure-at-reads
+use Rattle.pcf.proofs.structure.extent_at.Reads as extent-at-reads
 use Rattle.pcf.proofs.walk.stopped.Reads as stopped-reads
+use Rattle.wire.proofs.number_at.Reads as number-at-reads
 use Rattle.pcf.proofs.walk.+siblings.{statement}
 use Rattle.pcf.proofs.walk.+siblings.Tie.{close}
 
@@ -43,40 +40,60 @@ Inv-loop s end place depth count at₀ left₀ t₀ at left t =
 abbrev μ-loop : siblings-lts.MeasureT-loop
 μ-loop s end place depth count at₀ left₀ t₀ at left t = left
 
--- where a structure was found: the loop's numbers, the part, and the row
+-- where a structure was found: the loop's numbers, its length and its members
 abbrev Met : ℕ → Type 0
-Met t = siblings-lts.After-found2 (
-  structure-at-reads.Asked,
-  structure-at-reads.Learnt,
+Met t = siblings-lts.After-known-told2 (
+  extent-at-reads.Asked,
+  extent-at-reads.Learnt,
   stopped-reads.Asked,
   stopped-reads.Learnt,
+  number-at-reads.Asked,
+  number-at-reads.Learnt,
   siblings-below t,
   siblings.Post,
 ) (siblings-at t) siblings.Post Inv-loop μ-loop
 
 met : (t : ℕ) (f : Met t)
-    → structureAt (partOf (now (f .before .before .before .before .before .before .args .s)) (f .before .before .before .before .before .before .args .end)) (f .before .before .before .before .loop .at) (f .before .before .before .before .before .before .args .depth) ≡ accepted (rowOf (f .found2 .given .0 .0))
-met t f = is-row (f .before .before .structure-at .ensures) (f .found2 .given .1)
-
-known : (t : ℕ) (f : Met t)
-    → RowAt (partOf (now (f .before .before .before .before .before .before .args .s)) (f .before .before .before .before .before .before .args .end)) (f .before .before .before .before .loop .at) (f .before .before .before .before .before .before .args .depth) (rowOf (f .found2 .given .0 .0))
-known t f = row-at _ _ _ _ (met t f)
+    → Reaches (partOf (now (f .before .before .before .before .before .before .before .args .s)) (f .before .before .before .before .before .before .before .args .end)) (f .before .before .before .before .before .loop .at) (f .before .before .before .before .before .before .before .args .depth) (f .before .found2 .given .0 .0) (f .before .found2 .given .0 .1 .0)
+met t f = reaches _ _ _ (f .before .before .before .extent-at .ensures) (f .before .found2 .given .1)
 
 -- the place behind it is at most 65,536
-bound : (t : ℕ) (f : Met t) → f .before .before .before .before .loop .at + f .found2 .given .0 .0 .size ≤ 65536
-bound t f = omega (arith, known t f .at-fits, f .before .before .before .before .before .before .pre .1 .most)
+bound : (t : ℕ) (f : Met t) → f .before .before .before .before .before .loop .at + f .before .found2 .given .0 .0 ≤ 65536
+bound t f = omega (arith, reach-fits (met t f), f .before .before .before .before .before .before .before .pre .1 .most)
 
--- with the row counted, no count is above that place
-more-low : (t : ℕ) (f : Met t) → Low (raised (f .before .before .before .before .loop .t) (f .found2 .given .0 .0 .kind)) (f .before .before .before .before .loop .at + f .found2 .given .0 .0 .size)
-more-low t f = raised-low _ _ _ _ (met t f) (f .before .before .before .before .loop .t) (f .before .before .before .before .loop .inv .1)
+-- where its Type was read too
+abbrev Told : ℕ → Type 0
+Told t = siblings-lts.After-number-at (
+  extent-at-reads.Asked,
+  extent-at-reads.Learnt,
+  stopped-reads.Asked,
+  stopped-reads.Learnt,
+  number-at-reads.Asked,
+  number-at-reads.Learnt,
+  siblings-below t,
+  siblings.Post,
+) (siblings-at t) siblings.Post Inv-loop μ-loop
+
+kind : (t : ℕ) (g : Told t) → g .number-at .result ≡ met t (g .before) .row .kind
+kind t g = reach-kind _ _ _ _ _ _ (met t (g .before)) _ (g .number-at .ensures)
+
+-- there are 27 types
+below : (t : ℕ) (g : Told t) → g .number-at .result < 27
+below t g = omega (arith, kind t g, reach-type (met t (g .before)))
+
+-- with the structure counted, no count is above the place behind it
+more-low : (t : ℕ) (g : Told t) → Low (raised (g .before .before .before .before .before .before .loop .t) (g .number-at .result)) (g .before .before .before .before .before .before .loop .at + g .before .before .found2 .given .0 .0)
+more-low t g = raised-low _ _ _ _ _ _ (met t (g .before)) (kind t g) (g .before .before .before .before .before .before .loop .t) (g .before .before .before .before .before .before .loop .inv .1)
 
 pub +siblings-spec : {M : Type 1} → statement M
 unfolding raised
 +siblings-spec = close μ-siblings λ t. siblings-lts.spec (
-  structure-at-reads.Asked,
-  structure-at-reads.Learnt,
+  extent-at-reads.Asked,
+  extent-at-reads.Learnt,
   stopped-reads.Asked,
   stopped-reads.Learnt,
+  number-at-reads.Asked,
+  number-at-reads.Learnt,
   siblings-below t,
   siblings.Post,
 )
@@ -92,48 +109,51 @@ unfolding raised
     (λ c.
     let l = c .before .before .before .before .before .before in
     c .stopped .ensures
-    ∙ sym (l .loop .inv .0 ∙ turn-refused _ _ _ _ _ (c .before .before .before .before .before .loop-test .taken) _ _ (is-refusal (c .before .before .before .before .structure-at .ensures) (c .before .before .found .given .1))))
+    ∙ sym (l .loop .inv .0 ∙ turn-refused _ _ _ _ _ (c .before .before .before .before .before .loop-test .taken) _ _ (reaches-none (c .before .before .before .before .extent-at .ensures) (c .before .before .found .given .1))))
     (λ c. search needs)
-    -- the count of the row's type: its index, and that one more fits
-    (λ c. omega (arith, known t (c .before .before) .at-type))
-    (λ c. omega (arith, known t (c .before .before) .at-type))
-    (λ c. omega (arith, known t (c .before .before) .at-type))
-    (λ c. let f = c .before .before in omega (arith, bound t f, f .before .before .before .before .loop .inv .1 (f .found2 .given .0 .0 .kind)))
-    (λ c. omega (arith, known t (c .before .before) .at-type))
-    (λ c. omega (arith, known t (c .before .before) .at-type))
+    -- its Type is there to be read
+    (λ c κs. omega (arith, reach-fits (met t c), reach-least (met t c), c .before .before .before .before .before .before .before .pre .1 .there))
+    -- the count of its type: its index, and that one more fits
+    (λ c. omega (arith, below t c))
+    (λ c. omega (arith, below t c))
+    (λ c. omega (arith, below t c))
+    (λ c. omega (arith, bound t (c .before), reach-least (met t (c .before)), c .before .before .before .before .before .before .loop .inv .1 (c .number-at .result)))
+    (λ c. omega (arith, below t c))
+    (λ c. omega (arith, below t c))
     -- the next place
-    (λ c. omega (arith, bound t (c .before .before .before)))
-    (λ c. omega (arith, bound t (c .before .before .before)))
-    -- a row with members is no deeper than 8
-    (λ c. omega (arith, members-shallow _ _ _ _ (met t (c .before .before .before .before .before)) (omega arith)))
+    (λ c. omega (arith, bound t (c .before)))
+    (λ c. omega (arith, bound t (c .before)))
+    -- the members of a group
+    (λ c. omega (arith, reach-shallow (met t (c .before .before)) (c .if1 .taken)))
     (λ c κs.
-    let f = c .before .before .before .before .before in
-    let s = f .before .before .before .before .before .before .pre in
-    (omega (arith, s .0, members-shallow _ _ _ _ (met t f) (omega arith)), record { there = s .1 .there; most = s .1 .most; low = more-low t f }))
+    let s = c .before .before .before .before .before .before .before .before .before .pre in
+    (omega (arith, s .0, reach-shallow (met t (c .before .before)) (c .if1 .taken)), record { there = s .1 .there; most = s .1 .most; low = more-low t (c .before) }))
     (λ c. search needs)
     (λ c κs. search needs)
     -- the walk inside met a fault
     (λ c.
-    let f = c .before .before .before .before .before .before .before .before .before .before in
+    let g = c .before .before .before .before .before .before in
     c .stopped2 .ensures
-    ∙ sym (f .before .before .before .before .loop .inv .0 ∙ turn-halt _ _ _ _ _ (f .before .before .before .loop-test .taken) _ (met t f) _ _ _ (ended-as (c .before .before .before .before .siblings .ensures) (c .before .before .ended .given .1))))
+    ∙ sym (g .before .before .before .before .before .before .loop .inv .0 ∙ turn-halt _ _ _ _ _ (g .before .before .before .before .before .loop-test .taken) _ _ _ (met t (g .before)) (kind t g) _ _ _
+    (ended-as (c .before .before .before .before .siblings .ensures) (c .before .before .ended .given .1))))
     (λ c. search needs)
     -- one structure fewer is due
     (λ c. omega arith)
-    (λ c. omega (arith, c .before .before .before .before .before .before .before .before .loop-test .taken))
+    (λ c. omega (arith, c .before .before .before .before .before .before .loop-test .taken))
     -- the next turn, after the members of a group, or after a structure with nothing inside
     (λ c.
-    let f = c .before .before .before .before .before in
-    let due = f .before .before .before .loop-test .taken in
+    let g = c .before in
+    let due = g .before .before .before .before .before .loop-test .taken in
+    let on = g .before .before .before .before .before .before .loop .inv .0 in
     ⊎-elim
     (λ w.
     let e = ended-as (w .1 .ensures) (w .3 .given .1) in (
-      rw (w .6, w .7) (f .before .before .before .before .loop .inv .0 ∙ turn-on _ _ _ _ _ due _ (met t f) _ _ e),
-      rw (w .6, w .7) (came-low _ _ _ _ _ _ _ e (more-low t f)),
+      rw (w .6, w .7) (on ∙ turn-on _ _ _ _ _ due _ _ _ (met t (g .before)) (kind t g) _ _ e),
+      rw (w .6, w .7) (came-low _ _ _ _ _ _ _ e (more-low t g)),
     ))
     (λ w. (
-      rw (w .1, w .2) (f .before .before .before .before .loop .inv .0 ∙ turn-plain _ _ _ _ _ due _ (met t f) (w .0 .left)),
-      rw (w .1, w .2) (more-low t f),
+      rw (w .1, w .2) (on ∙ turn-plain _ _ _ _ _ due _ _ _ (met t (g .before)) (kind t g) (w .0 .left)),
+      rw (w .1, w .2) (more-low t g),
     ))
     (c .if1 .came))
     -- none is left
