@@ -39,6 +39,14 @@ pub enum Edge {
     High,
 }
 
+pub const EDGES: [Edge; 2] = [Edge::Low, Edge::High];
+
+impl Default for Guarded {
+    fn default() -> Guarded {
+        Guarded::new()
+    }
+}
+
 impl Guarded {
     pub fn new() -> Guarded {
         let size = ROOM + 2 * PAGE;
