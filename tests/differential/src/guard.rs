@@ -32,6 +32,9 @@ pub struct Guarded {
     first: *mut u8,
 }
 
+// SAFETY: nobody else has the area's address.
+unsafe impl Send for Guarded {}
+
 /// At which end of the area bytes lie.
 #[derive(Clone, Copy, Debug)]
 pub enum Edge {
