@@ -59,16 +59,16 @@ impl Case {
         let bit = |place: u8| self.event >> place & 1 == 1;
         let activity = Event::Activity(Activity {
             level: [Level::High, Level::Low, Level::Medium, Level::High]
-                [usize::from(self.event >> 4 & 3)],
+                [usize::from(self.event % 4)],
             group,
             // Turned round, so that 0 is what does most.
-            reports_asked: !bit(0),
+            reports_asked: !bit(2),
             settings: Settings {
-                activity_recording: !bit(1),
-                trace_route_messaging: !bit(2),
+                activity_recording: !bit(3),
+                trace_route_messaging: !bit(4),
             },
         });
-        if bit(3) {
+        if bit(5) {
             [Event::Discontinuity, activity, activity]
         } else {
             [activity, Event::Discontinuity, activity]

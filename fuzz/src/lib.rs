@@ -13,9 +13,7 @@ pub mod compare;
 #[cfg(feature = "engine")]
 mod engine;
 pub mod layout;
-#[cfg(feature = "engine")]
-mod mend;
-#[cfg(feature = "engine")]
-mod mutate;
+pub mod mend;
+pub mod mutate;
 mod structure;
 pub mod tables;

@@ -37,7 +37,7 @@ pub fn mutate(bytes: &[u8], random: &mut Random, engine: Engine) -> Vec<u8> {
 /// One choice, mostly to a small number; the first byte stays as a mark.
 fn choose(choices: &mut [u8; CHOICES], random: &mut Random) {
     let place = random.between(1, CHOICES - 1);
-    choices[place] = if random.chance(70) {
+    choices[place] = if random.chance(50) {
         random.below(16) as u8
     } else {
         random.word() as u8

@@ -28,7 +28,13 @@ pub fn compare_name(
         Named::InMessage(part) => (true, expect::part(part)),
         Named::Substitute => (false, fill::PART),
     };
-    assert_eq!(found, there, "string {identifier} in group {n}");
-    assert_eq!(part, wanted, "string {identifier} in group {n}");
+    assert_eq!(
+        found, there,
+        "named string {identifier} in Activity group {n}"
+    );
+    assert_eq!(
+        part, wanted,
+        "named string {identifier} in Activity group {n}"
+    );
     there.then_some(wanted.length)
 }
