@@ -10,6 +10,7 @@ use differential::compare::traces::{compare_compose, compare_decisions, compare_
 use differential::failure::OnFailure;
 use differential::guard::Guarded;
 use differential::spread::Spread;
+use std::hint::black_box;
 
 /// So many structures are asked for one at a time; a message can have
 /// thousands, and these are asked for by check, tally and listing anyway.
@@ -28,9 +29,11 @@ pub struct Bench {
 impl Bench {
     pub fn compare(&mut self, case: &Case) {
         let _told = OnFailure(|| format!("{case:02x?}"));
+        let sheet = case.sheet;
         self.reading(case);
         self.composing(case);
         self.events(case);
+        assert_eq!(black_box(&case.sheet), &sheet, "the sheet");
     }
 
     /// The functions that only read, and that they do.
