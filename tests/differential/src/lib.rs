@@ -1,5 +1,6 @@
-//! The proved library as plain Rust functions, for the comparison with the
-//! independent decoder in `tests/`.
+//! The proved library as plain Rust functions, and its comparison with the
+//! independent decoder, call by call. `tests/` compares on generated messages;
+//! the fuzzer in the repository's `fuzz/` on those that it finds.
 //!
 //! First `rt staticlib gwirandol` in the repository's root, or the library's
 //! folder in `GWIRANDOL_LIB`. Then `cargo test --release --offline`, with
@@ -7,4 +8,9 @@
 //! answer came. `CASES` is the number of cases of each kind, `SEED` the seed
 //! of the first.
 
+pub mod compare;
+pub mod failure;
 pub mod ffi;
+#[cfg(target_os = "linux")]
+pub mod guard;
+pub mod spread;

@@ -1,11 +1,12 @@
 //! Fixed cases of the papers.
 
-use crate::spread::Spread;
-use crate::structures::{compare, compare_step};
-use crate::text::Text;
+use crate::structures::compare;
 use decoder::generate::{assemble, Piece};
 use decoder::{Sheet, Values};
+use differential::compare::structures::compare_step;
+use differential::compare::text::Text;
 use differential::ffi::{self, Answer};
+use differential::spread::Spread;
 
 /// Document 01's listing of a composed message, under its made-up sheet.
 pub const COMPOSED: &str = "pcf 10 75 1 180\n\

@@ -1,14 +1,13 @@
 //! No function reads or writes outside of what it is lent. A fault here ends
 //! the program without a word: `SEED` and `CASES` then find the case.
 
-use crate::guard::{Edge, Guarded};
 use crate::run::run;
-use crate::structures::{compare, compare_step};
-use crate::text::Text;
+use crate::structures::compare;
 use decoder::generate::{any_message, any_place};
+use differential::compare::structures::compare_step;
+use differential::compare::text::Text;
 use differential::ffi::{self, LISTING_BYTES};
-
-pub const EDGES: [Edge; 2] = [Edge::Low, Edge::High];
+use differential::guard::{Guarded, EDGES};
 
 #[test]
 fn generated_messages() {

@@ -3,17 +3,10 @@
 //! The environment says how many cases of each kind there are (`CASES`) and
 //! which is the first (`SEED`); a failing case prints both for itself.
 
-mod bytes;
-mod expect;
-mod failure;
 mod fixed;
-#[cfg(target_os = "linux")]
-mod guard;
 #[cfg(target_os = "linux")]
 mod guarded;
 mod header;
 mod run;
-mod spread;
 mod structures;
-mod text;
 mod traces;

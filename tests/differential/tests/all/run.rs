@@ -1,8 +1,8 @@
 //! Running the cases of one kind, each from a seed of its own.
 
-use crate::failure::OnFailure;
-use crate::spread::Spread;
 use decoder::generate::Random;
+use differential::failure::OnFailure;
+use differential::spread::Spread;
 use std::env;
 
 /// The seed of the first case where the environment names none.

@@ -1,65 +1,18 @@
 //! Check, tally, list and step on generated messages.
 
-use crate::bytes::same;
-use crate::expect;
-use crate::failure::{lent, OnFailure};
 use crate::run::run;
-use crate::spread::Spread;
-use crate::text::Text;
 use decoder::generate::{any_message, any_place, Random};
-use differential::ffi::{self, Answer, Row, KINDS};
-
-/// Fills rows and counts before a call; no message has this as any number.
-const FILL: u64 = 0xA5A5_5A5A_C3C3_3C3C;
+use differential::compare::bytes::same;
+use differential::compare::structures::{self, compare_step};
+use differential::compare::text::Text;
+use differential::failure::{lent, OnFailure};
+use differential::spread::Spread;
 
 /// Check, tally and list of one message.
 pub fn compare(buffer: &[u8], length: usize, text: &mut Text, spread: &mut Spread) {
-    let checked = decoder::check(buffer, length);
-    let wanted = expect::answer(checked.map(|structures| structures as u64));
-    let answer = ffi::check(buffer, length);
-    assert_eq!(answer, wanted, "check");
-    spread.answer("check", answer);
-
-    let tally = decoder::tally(buffer, length);
-    let mut counts = [FILL as u32; KINDS];
-    let answer = ffi::tally(buffer, length, &mut counts);
-    assert_eq!(answer, wanted, "tally's answer");
-    assert_eq!(tally.refusal, checked.err());
-    assert_eq!(counts, tally.counts, "tally");
-    spread.answer("tally", answer);
-
-    let listed = decoder::list(buffer, length);
-    let wanted = expect::answer(
-        listed
-            .as_ref()
-            .map(|text| text.len() as u64)
-            .map_err(|r| *r),
-    );
-    let listing = listed.unwrap_or_default();
-    let answer = text.list(buffer, length, listing.as_bytes());
-    assert_eq!(answer, wanted, "list");
-    spread.answer("list", answer);
-}
-
-/// One structure at a place; a refusal leaves the row as it was.
-pub fn compare_step(buffer: &[u8], length: usize, place: usize, depth: u32) -> Answer {
-    let stepped = decoder::step(buffer, length, place, depth);
-    let before = Row {
-        depth: FILL,
-        place: FILL,
-        kind: FILL,
-        parameter: FILL,
-        length: FILL,
-        members: FILL,
-        next: FILL,
-    };
-    let mut row = before;
-    let answer = ffi::step(buffer, length, place, depth, &mut row);
-    let wanted = expect::step_answer(&stepped, place);
-    assert_eq!(answer, wanted, "step at {place}, depth {depth}");
-    let wanted = stepped.map_or(before, expect::row);
-    assert_eq!(row, wanted, "row at {place}, depth {depth}");
-    answer
+    for (entry, answer) in structures::compare(buffer, length, text) {
+        spread.answer(entry, answer);
+    }
 }
 
 /// The whole walk over a sound message, one structure at a time.

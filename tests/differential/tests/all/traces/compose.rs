@@ -1,13 +1,11 @@
 //! Compose, and reading back what it wrote.
 
-use super::expect;
-use crate::bytes::same;
-use crate::failure::{hex, OnFailure};
 use crate::run::run;
-use crate::spread::Spread;
 use decoder::generate::{any_sheet, any_values, Random};
-use decoder::{Sheet, Values};
-use differential::ffi::{self, Answer};
+use decoder::Values;
+use differential::compare::traces::compare_compose;
+use differential::failure::{hex, OnFailure};
+use differential::spread::Spread;
 
 /// Mostly in range, sometimes eight numbers without any sense.
 fn some_values(random: &mut Random) -> Values {
@@ -27,30 +25,12 @@ fn some_size(random: &mut Random) -> usize {
     }
 }
 
-/// A composed message reads back as the values it was made from.
-fn read_back(sheet: &Sheet, values: &Values, buffer: &[u8]) {
-    let mut found = expect::EIGHT;
-    let answer = ffi::read(buffer, 180, &sheet.identifiers, &mut found);
-    assert_eq!(answer, Answer::given(0), "read of a composed message");
-    assert_eq!(found, values.to_array(), "values read back");
-}
-
 fn case(random: &mut Random, spread: &mut Spread) {
     let (sheet, values) = (any_sheet(random), some_values(random));
     let size = some_size(random);
     let before = random.bytes(size);
     let _told = OnFailure(|| format!("{sheet:?}\n{values:?}\n{}", hex("buffer", &before)));
-    let (mut ours, mut wanted) = (before.clone(), before.clone());
-    let composed = decoder::compose(&sheet, &values, &mut wanted);
-    let answer = ffi::compose(&sheet.identifiers, &values.to_array(), &mut ours);
-    let expected = crate::expect::answer(composed.map(|length| length as u64));
-    assert_eq!(answer, expected, "compose");
-    same("the buffer", &ours, &wanted);
-    if answer.is_refused() {
-        same("the buffer after a refusal", &ours, &before);
-    } else {
-        read_back(&sheet, &values, &ours);
-    }
+    let answer = compare_compose(&sheet, &values, &mut before.clone());
     spread.answer("compose", answer);
 }
 

@@ -1,15 +1,16 @@
 //! Demand 3 replayed through the library: one claim about the whole list of
 //! events, refused ones included.
 
-use super::play::Stage;
-use super::{expect, show};
-use crate::bytes::same;
-use crate::failure::{hex, OnFailure};
+use super::show;
+use super::stage::Stage;
 use crate::run::run;
-use crate::spread::Spread;
 use decoder::generate::{pair, Pair, Random, Step};
 use decoder::{lent_group_is_sound, Event, Sheet, Values};
+use differential::compare::bytes::same;
+use differential::compare::fill;
+use differential::failure::{hex, OnFailure};
 use differential::ffi::{self, Answer, Done};
+use differential::spread::Spread;
 
 /// One trace and what the claim has to remember of it.
 struct Side {
@@ -39,7 +40,7 @@ impl Side {
 
     /// The values that the library reads; the trace stays sound.
     fn values(&self) -> Values {
-        let mut values = expect::EIGHT;
+        let mut values = fill::EIGHT;
         let (buffer, length) = (&self.stage.buffer, self.stage.length);
         let answer = ffi::read(buffer, length, &self.sheet.identifiers, &mut values);
         assert_eq!(answer, Answer::given(0), "no sound trace any more");

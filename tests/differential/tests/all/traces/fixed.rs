@@ -1,10 +1,10 @@
 //! Document 01's hops on both sides of the line, through the library.
 
-use super::play::Stage;
+use super::stage::Stage;
 use crate::fixed::{COMPOSED, MADE_UP};
-use crate::text::Text;
 use decoder::generate::{assemble, Piece};
 use decoder::{Activity, Event, Level, Settings, Sheet, Values};
+use differential::compare::text::Text;
 use differential::ffi::{self, Answer};
 
 /// Low detail, nothing counted, no limit, nothing accumulated, all, no.

@@ -1,17 +1,15 @@
 //! No function for traces reads or writes outside of what it is lent; as for
 //! the structures, a fault here ends the program.
 
-use super::play::give;
-use super::read::{any_case, compare_decisions, compare_read};
-use super::{expect, parts};
-use crate::bytes::same;
-use crate::guard::{Edge, Guarded};
-use crate::guarded::EDGES;
+use super::read::{self, any_case};
 use crate::run::run;
-use crate::spread::Spread;
 use decoder::generate::{any_sheet, any_values, scenario, Scenario, Step, NAMES};
 use decoder::{Activity, Event};
-use differential::ffi;
+use differential::compare::events::{compare_event, Buffers};
+use differential::compare::parts::{compare_group, compare_name};
+use differential::compare::traces::compare_compose;
+use differential::guard::{Edge, Guarded, EDGES};
+use differential::spread::Spread;
 
 #[test]
 fn generated_traces() {
@@ -23,10 +21,10 @@ fn generated_traces() {
         let exact = message.buffer.get(..message.length).unwrap_or_default();
         for edge in EDGES {
             let lent = area.lend(exact, edge);
-            compare_read(lent, exact.len(), &sheet, spread);
-            compare_decisions(lent, exact.len(), &sheet, spread);
-            parts::compare_group(lent, exact.len(), &sheet, name.0, spread);
-            parts::compare_name(lent, exact.len(), &sheet, name, spread);
+            read::compare(lent, exact.len(), &sheet, spread);
+            let found = compare_group(lent, exact.len(), &sheet, name.0);
+            spread.note("group", u32::from(!found));
+            spread.name(compare_name(lent, exact.len(), &sheet, name));
         }
     });
 }
@@ -39,35 +37,39 @@ fn generated_values() {
         let before = vec![0; random.pick(&[0, 36, 179, 180, 181])];
         for edge in EDGES {
             let lent = area.lend(&before, edge);
-            let answer = ffi::compose(&sheet.identifiers, &values.to_array(), lent);
-            spread.answer("compose", answer);
+            spread.answer("compose", compare_compose(&sheet, &values, lent));
         }
     });
 }
 
 /// Message, report and group each lie at the edge of an area.
 fn compare(case: &Scenario, step: &Step, edge: Edge, areas: &mut [Guarded; 3], met: &mut Spread) {
-    let (mut buffer, mut report) = (case.buffer.clone(), case.report.clone());
-    let (length, sheet, event) = (case.length, &case.sheet, step.event());
-    let result = decoder::apply(&mut buffer, length, sheet, &event, &mut report);
+    let (mut message, mut report) = (case.buffer.clone(), case.report.clone());
+    let mut theirs = Buffers {
+        message: &mut message,
+        report: &mut report,
+    };
     let [first, second, third] = areas;
-    let lent = (
-        first.lend(&case.buffer, edge),
-        second.lend(&case.report, edge),
-    );
-    let event = match event {
+    let mut ours = Buffers {
+        message: first.lend(&case.buffer, edge),
+        report: second.lend(&case.report, edge),
+    };
+    let event = match step.event() {
         Event::Activity(activity) => Event::Activity(Activity {
             group: third.lend(activity.group, edge),
             ..activity
         }),
-        Event::Discontinuity => event,
+        Event::Discontinuity => Event::Discontinuity,
     };
-    let (answer, done) = give(lent.0, length, lent.1, sheet, &event, 3);
-    assert_eq!(answer, expect::event(&result));
-    assert_eq!(done, expect::done(&result));
-    same("the message's buffer", lent.0, &buffer);
-    same("the report's buffer", lent.1, &report);
-    met.answer("event", answer);
+    let (length, sheet) = (case.length, &case.sheet);
+    met.event(&compare_event(
+        &mut ours,
+        &mut theirs,
+        length,
+        sheet,
+        &event,
+        3,
+    ));
 }
 
 #[test]

@@ -1,16 +1,16 @@
 //! Read, forwarding and arrival under sound and unsound sheets.
 
-use super::{expect, show};
-use crate::bytes::same;
-use crate::failure::OnFailure;
+use super::show;
 use crate::run::run;
-use crate::spread::Spread;
 use crate::structures::other_length;
 use decoder::generate::{
     any_message, any_sheet, any_trace, unsound_sheet, Lent, Random, TraceCase,
 };
 use decoder::Sheet;
-use differential::ffi;
+use differential::compare::bytes::same;
+use differential::compare::traces::{compare_decisions, compare_read};
+use differential::failure::OnFailure;
+use differential::spread::Spread;
 
 /// Mostly traces, sound and faulty ones, but also messages of any type.
 pub fn any_case(random: &mut Random) -> (Lent, Sheet) {
@@ -31,28 +31,12 @@ pub fn other_sheet(random: &mut Random) -> Sheet {
     }
 }
 
-/// A refusal leaves the values as they were.
-pub fn compare_read(buffer: &[u8], length: usize, sheet: &Sheet, spread: &mut Spread) {
-    let wanted = decoder::read(buffer, length, sheet);
-    let mut values = expect::EIGHT;
-    let answer = ffi::read(buffer, length, &sheet.identifiers, &mut values);
-    assert_eq!(answer, crate::expect::answer(wanted.map(|_| 0)), "read");
-    let wanted = wanted.map_or(expect::EIGHT, |values| values.to_array());
-    assert_eq!(values, wanted, "values");
-    spread.answer("read", answer);
-}
-
-pub fn compare_decisions(buffer: &[u8], length: usize, sheet: &Sheet, spread: &mut Spread) {
-    for (supporting, entry) in [(false, "forward, not supporting"), (true, "forward")] {
-        let wanted = decoder::forwarding(buffer, length, sheet, supporting);
-        let answer = ffi::forward(buffer, length, &sheet.identifiers, supporting);
-        assert_eq!(answer, expect::forwarding(wanted), "{entry}");
+/// Read and the decisions on one message.
+pub fn compare(buffer: &[u8], length: usize, sheet: &Sheet, spread: &mut Spread) {
+    spread.answer("read", compare_read(buffer, length, sheet));
+    for (entry, answer) in compare_decisions(buffer, length, sheet) {
         spread.answer(entry, answer);
     }
-    let wanted = decoder::arrival(buffer, length, sheet);
-    let answer = ffi::arrive(buffer, length, &sheet.identifiers);
-    assert_eq!(answer, expect::arrival(wanted), "arrive");
-    spread.answer("arrive", answer);
 }
 
 fn case(random: &mut Random, spread: &mut Spread) {
@@ -63,8 +47,7 @@ fn case(random: &mut Random, spread: &mut Spread) {
     let before = (buffer.clone(), sheet);
     let asked = [(length, &sheet), (length, &others.1), (others.0, &sheet)];
     for (length, sheet) in asked {
-        compare_read(buffer, length, sheet, spread);
-        compare_decisions(buffer, length, sheet, spread);
+        compare(buffer, length, sheet, spread);
     }
     same("the message", buffer, &before.0);
     assert_eq!(std::hint::black_box(&sheet), &before.1);

@@ -1,8 +1,8 @@
 //! Traces and events as text, for a failing case.
 
-use crate::failure::{hex, lent};
 use decoder::generate::{Scenario, Step};
 use decoder::Sheet;
+use differential::failure::{hex, lent};
 
 /// A lent message and its sheet.
 pub fn trace(buffer: &[u8], length: usize, sheet: &Sheet) -> String {

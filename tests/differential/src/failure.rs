@@ -3,7 +3,7 @@
 use std::fmt::Write;
 use std::thread;
 
-/// Prints its text if a test fails while this is alive.
+/// Prints its text if a comparison fails while this is alive.
 pub struct OnFailure<F: Fn() -> String>(pub F);
 
 impl<F: Fn() -> String> Drop for OnFailure<F> {

@@ -1,13 +1,19 @@
 //! The lent text buffer of the listing.
 
-use crate::bytes::same;
+use super::bytes::same;
+use crate::ffi::{self, Answer, LISTING_BYTES};
 use decoder::generate::Random;
-use differential::ffi::{self, Answer, LISTING_BYTES};
 
 /// A text buffer and what it was filled with.
 pub struct Text {
     lent: Box<[u8; LISTING_BYTES]>,
     filled: Box<[u8; LISTING_BYTES]>,
+}
+
+impl Default for Text {
+    fn default() -> Text {
+        Text::new()
+    }
 }
 
 impl Text {

@@ -1,34 +1,50 @@
-//! The decoder's answers for traces in the library's form, and what stands in
-//! a lent place before a call.
+//! The decoder's answers in the library's form.
 
+use super::fill;
+use crate::ffi::{Answer, Done, Part, Row};
 use decoder::{Applied, Arrival, Counter, EventRefusal, Level, Refusal};
-use differential::ffi::{Answer, Done, Eight, Part};
 
-/// Fills what is lent for writing; no answer has this number.
-const FILL: u64 = 0xA5A5_5A5A_C3C3_3C3C;
+/// What is given, or number and place.
+pub fn answer(result: Result<u64, Refusal>) -> Answer {
+    match result {
+        Ok(value) => Answer::given(value),
+        Err(refusal) => Answer::refused(refusal.number, refusal.place as u64),
+    }
+}
 
-pub const EIGHT: Eight = [FILL as u32; 8];
+/// One structure's answer is a number only: the place is the one asked for.
+pub fn step_answer<T>(result: &Result<T, Refusal>, place: usize) -> Answer {
+    match result {
+        Ok(_) => Answer::given(0),
+        Err(refusal) => {
+            let due = if refusal.number == 1 { 0 } else { place };
+            assert_eq!(refusal.place, due);
+            Answer::refused(refusal.number, 0)
+        }
+    }
+}
 
-pub const PART: Part = Part {
-    place: FILL,
-    length: FILL,
-};
-
-pub const DONE: Done = Done {
-    counter: FILL,
-    appended: FILL,
-    report_length: FILL,
-    message_length: FILL,
-};
+/// A row with the place behind it.
+pub fn row((row, behind): (decoder::Row, usize)) -> Row {
+    Row {
+        depth: u64::from(row.depth),
+        place: row.place as u64,
+        kind: u64::from(row.kind),
+        parameter: u64::from(row.parameter),
+        length: u64::from(row.struc_length),
+        members: u64::from(row.count.unwrap_or(0)),
+        next: behind as u64,
+    }
+}
 
 /// `GW_FORWARD`, or a refusal.
 pub fn forwarding(result: Result<(), Refusal>) -> Answer {
-    crate::expect::answer(result.map(|()| 1))
+    answer(result.map(|()| 1))
 }
 
 /// `GW_PUT` or `GW_WITHHOLD`, or a refusal.
 pub fn arrival(result: Result<Arrival, Refusal>) -> Answer {
-    crate::expect::answer(result.map(|arrival| match arrival {
+    answer(result.map(|arrival| match arrival {
         Arrival::Put => 2,
         Arrival::Withhold => 3,
     }))
@@ -84,7 +100,7 @@ pub fn done(result: &Result<Applied, EventRefusal>) -> Done {
             report_length: applied.report_length as u64,
             message_length: applied.message_length as u64,
         },
-        Err(_) => DONE,
+        Err(_) => fill::DONE,
     }
 }
 

@@ -1,7 +1,9 @@
 //! How often each entry gave each answer: a comparison in which some answer
 //! never came would be blind there.
 
-use differential::ffi::Answer;
+use crate::compare::expect;
+use crate::ffi::Answer;
+use decoder::{Applied, EventRefusal};
 use std::collections::BTreeMap;
 use std::fmt;
 
@@ -19,6 +21,30 @@ impl Spread {
 
     pub fn answer(&mut self, entry: &'static str, answer: Answer) {
         self.note(entry, answer.number());
+    }
+
+    /// An event's answer and what it did.
+    pub fn event(&mut self, result: &Result<Applied, EventRefusal>) {
+        match result {
+            Ok(applied) => {
+                self.note("event", 0);
+                self.note("appended", u32::from(applied.appended));
+                self.note("reported", u32::from(applied.report_length > 0));
+                self.note("counter", expect::done(result).counter as u32);
+            }
+            Err(refusal) => {
+                self.note("event", u32::from(refusal.number));
+                if let Some(owed) = refusal.reply_owed {
+                    self.note("reply owed", u32::from(owed));
+                }
+            }
+        }
+    }
+
+    /// A named string: whether there is one, and whether it is empty.
+    pub fn name(&mut self, length: Option<u64>) {
+        self.note("name", u32::from(length.is_none()));
+        self.note("empty name", u32::from(length != Some(0)));
     }
 
     /// No other numbers came than these, and in a long run each of them.

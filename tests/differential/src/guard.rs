@@ -32,11 +32,22 @@ pub struct Guarded {
     first: *mut u8,
 }
 
+// SAFETY: nobody else has the area's address.
+unsafe impl Send for Guarded {}
+
 /// At which end of the area bytes lie.
 #[derive(Clone, Copy, Debug)]
 pub enum Edge {
     Low,
     High,
+}
+
+pub const EDGES: [Edge; 2] = [Edge::Low, Edge::High];
+
+impl Default for Guarded {
+    fn default() -> Guarded {
+        Guarded::new()
+    }
 }
 
 impl Guarded {

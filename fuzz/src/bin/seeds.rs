@@ -1,0 +1,120 @@
+//! Writes the first inputs into a folder: the documents' examples, as plain
+//! messages and with choices.
+
+use decoder::generate::{assemble, Piece};
+use decoder::{sample, Header, Sheet, Values};
+use fuzz::layout::{Choice, Input};
+use fuzz::tables::{IBM, MADE_UP};
+use std::path::Path;
+use std::{env, fs, io};
+
+/// Detail low, nothing counted, no limit; accumulated in the message.
+const VALUES: [u32; 8] = [2, 0, 0, 0, 0, 0x10004, 0x100, 0x2000];
+
+fn composed(sheet: [u32; 8], values: [u32; 8]) -> Vec<u8> {
+    let mut message = vec![0; 180];
+    let composed = decoder::compose(
+        &Sheet::new(sheet),
+        &Values::from_array(values),
+        &mut message,
+    );
+    assert_eq!(composed, Ok(180));
+    message
+}
+
+/// An Activity group with names, one of them with trailing blanks.
+fn activity() -> Piece {
+    Piece::group(
+        8005,
+        &[
+            Piece::string(3001, b"QM1     "),
+            Piece::integer(1201, 1),
+            Piece::string(3002, b""),
+        ],
+    )
+}
+
+fn header() -> [u32; 8] {
+    let mut fields = [0; 8];
+    fields.copy_from_slice(&Header::TRACE_ROUTE.fields()[..8]);
+    fields
+}
+
+/// Two Activity groups around the TraceRoute group.
+fn trace() -> Vec<u8> {
+    let pairs = MADE_UP.into_iter().zip(VALUES);
+    let members: Vec<Piece> = pairs
+        .map(|(name, value)| Piece::integer(name, value))
+        .collect();
+    assemble(
+        header(),
+        &[activity(), Piece::group(8003, &members), activity()],
+    )
+}
+
+/// A group at depth 8, and one of each of the other types.
+fn structures() -> Vec<u8> {
+    let leaves = [
+        Piece::integer(1, 2),
+        Piece::string(2, b"one"),
+        Piece::new(5, 3, &[2, 7, 8], &[], &[]),
+        Piece::new(6, 4, &[0, 2, 4], b"one two ", &[0; 4]),
+        Piece::new(9, 5, &[4], b"byte", &[]),
+        Piece::new(13, 6, &[1, 2], &[], &[]),
+        Piece::new(14, 7, &[1, 0, 4], b"text", &[]),
+        Piece::new(15, 8, &[1, 4], b"byte", &[]),
+        Piece::new(23, 9, &[0, 0, 1], &[], &[]),
+        Piece::new(25, 10, &[1, 0, 1], &[], &[]),
+    ];
+    let deep = (0..8).fold(Piece::integer(1, 2), |inner, _| Piece::group(1, &[inner]));
+    assemble(header(), &[&leaves[..], &[deep]].concat())
+}
+
+/// Each with the name of its file. A plain message stands as it is.
+fn seeds() -> Vec<(&'static str, Vec<u8>)> {
+    let (trace, ibm) = (trace(), composed(IBM, VALUES));
+    let mut lent = Input::plain(&trace);
+    lent.group = activity().bytes;
+    vec![
+        ("composed", composed(MADE_UP, VALUES)),
+        ("event-004", sample::event_004()),
+        ("structures", structures()),
+        ("activities", trace.clone()),
+        ("lent-group", lent.bytes()),
+        (
+            "ibm-sheet",
+            Input::plain(&ibm).choose(Choice::Sheet, 1).bytes(),
+        ),
+        (
+            "no-room",
+            Input::plain(&trace).choose(Choice::Room, 2).bytes(),
+        ),
+        (
+            "no-report",
+            Input::plain(&trace).choose(Choice::Report, 4).bytes(),
+        ),
+        (
+            "long",
+            Input::plain(&trace).choose(Choice::Swell, 4).bytes(),
+        ),
+        (
+            "name",
+            Input::plain(&trace)
+                .choose(Choice::Name, 9)
+                .with_free(3002)
+                .bytes(),
+        ),
+    ]
+}
+
+fn main() -> io::Result<()> {
+    let Some(folder) = env::args_os().nth(1) else {
+        eprintln!("usage: seeds FOLDER");
+        std::process::exit(2);
+    };
+    fs::create_dir_all(&folder)?;
+    for (name, bytes) in seeds() {
+        fs::write(Path::new(&folder).join(name), bytes)?;
+    }
+    Ok(())
+}

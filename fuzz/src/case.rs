@@ -1,0 +1,236 @@
+//! What the choices of an input mean: the arguments of all functions.
+//!
+//! Small numbers choose edges and all others the ordinary argument, so that
+//! most inputs get as far as their message does.
+
+use crate::layout::{Choice, Input};
+use crate::structure::swell;
+use crate::tables::{IBM, MADE_UP, SPECIAL, VALUES};
+use decoder::generate::{Piece, NAMES};
+use decoder::{Activity, Event, Level, Settings, Sheet, Values};
+use differential::guard::Edge;
+
+/// All arguments.
+#[derive(Clone, Debug)]
+pub struct Case {
+    pub buffer: Vec<u8>,
+    pub length: usize,
+    pub sheet: Sheet,
+    pub values: Values,
+    pub composed: usize,
+    pub place: usize,
+    pub depth: u32,
+    pub n: usize,
+    pub identifier: u32,
+    pub group: Vec<u8>,
+    pub report: usize,
+    pub high: u32,
+    pub edge: Edge,
+    event: u8,
+}
+
+impl Case {
+    pub fn new(input: &Input) -> Case {
+        let group = group(input);
+        let message = message(input, group.len());
+        let size = message.len() + room(input, group.len());
+        let length = length(input, message.len(), size);
+        Case {
+            // What stands behind the message looks like one too.
+            buffer: message.iter().copied().cycle().take(size).collect(),
+            length,
+            sheet: sheet(input),
+            values: values(input),
+            composed: composed(input),
+            place: place(input, length),
+            depth: depth(input),
+            n: number(input),
+            identifier: identifier(input),
+            report: report(input, group.len()),
+            high: [3, 0, 4, 8, 32, 1 << 31, u32::MAX][usize::from(input.choice(Choice::High) % 7)],
+            edge: [Edge::High, Edge::Low][usize::from(input.choice(Choice::Edge) % 2)],
+            event: input.choice(Choice::Event),
+            group,
+        }
+    }
+
+    /// Three events, one after another; the group lies where the caller has it.
+    pub fn events<'a>(&self, group: &'a [u8]) -> [Event<'a>; 3] {
+        let bit = |place: u8| self.event >> place & 1 == 1;
+        let activity = Event::Activity(Activity {
+            level: [Level::High, Level::Low, Level::Medium, Level::High]
+                [usize::from(self.event % 4)],
+            group,
+            // Turned round, so that 0 is what does most.
+            reports_asked: !bit(2),
+            settings: Settings {
+                activity_recording: !bit(3),
+                trace_route_messaging: !bit(4),
+            },
+        });
+        if bit(5) {
+            [Event::Discontinuity, activity, activity]
+        } else {
+            [activity, Event::Discontinuity, activity]
+        }
+    }
+}
+
+/// The lent group: the input's or an ordinary one, as it is, long, or cut.
+fn group(input: &Input) -> Vec<u8> {
+    let mut group = input.group.clone();
+    if group.is_empty() {
+        group = Piece::group(8005, &[Piece::string(3001, b"QM1 ")]).bytes;
+    }
+    match input.choice(Choice::Group) {
+        1 => swell(&mut group, 12, 65_500),
+        2 => swell(&mut group, 12, 65_504),
+        3 => group.truncate(group.len() - 1),
+        4 => group.clear(),
+        _ => {}
+    }
+    group
+}
+
+/// The message as it is, or so long that the group just fits behind it or just
+/// doesn't.
+fn message(input: &Input, group: usize) -> Vec<u8> {
+    let mut message = input.message.clone();
+    let size = match input.choice(Choice::Swell) {
+        1 => 65_536,
+        2 => 65_532,
+        3 => 65_536_usize.saturating_sub(group),
+        4 => 65_540_usize.saturating_sub(group),
+        5 => 65_540,
+        _ => 0,
+    };
+    swell(&mut message, 32, size);
+    message
+}
+
+/// Bytes behind the message: mostly enough for both activities.
+fn room(input: &Input, group: usize) -> usize {
+    match input.choice(Choice::Room) {
+        1 => 0,
+        2 => group.saturating_sub(1),
+        3 => group,
+        4 => (2 * group).saturating_sub(1),
+        5 => 2 * group,
+        6 => 1,
+        other => 2 * group + usize::from(other),
+    }
+}
+
+fn length(input: &Input, message: usize, size: usize) -> usize {
+    match input.choice(Choice::Length) {
+        1 => message.saturating_sub(1),
+        2 => message.saturating_sub(4),
+        3 => message + 1,
+        4 => message + 4,
+        5 => size,
+        6 => size + 1,
+        7 => 0,
+        8 => 35,
+        9 => 36,
+        10 => 65_536,
+        11 => 65_537,
+        12 => 1 << 32,
+        13 => usize::MAX,
+        14 => usize::MAX - 35,
+        15 => input.free() as usize,
+        _ => message,
+    }
+}
+
+fn report(input: &Input, group: usize) -> usize {
+    match input.choice(Choice::Report) {
+        1 => 0,
+        2 => 35,
+        3 => 36,
+        4 => 36 + group - 1.min(group),
+        5 => 36 + group,
+        other => 36 + group + usize::from(other),
+    }
+}
+
+fn sheet(input: &Input) -> Sheet {
+    let mut identifiers = match input.choice(Choice::Sheet) {
+        1 => IBM,
+        2 => SPECIAL,
+        _ => MADE_UP,
+    };
+    let change = input.choice(Choice::Change);
+    let (at, next) = (usize::from(change % 8), usize::from((change % 8 + 1) % 8));
+    match change / 8 {
+        1 => identifiers[at] = identifiers[next],
+        2 => identifiers.swap(at, next),
+        3 => identifiers[at] = 0,
+        4 => identifiers[at] = 1 << 31,
+        5 => identifiers[at] = i32::MAX as u32,
+        6 => identifiers[at] = input.free(),
+        _ => {}
+    }
+    Sheet::new(identifiers)
+}
+
+fn values(input: &Input) -> Values {
+    let mut values = [0; 8];
+    for (attribute, value) in values.iter_mut().enumerate() {
+        let choice = usize::from(input.value(attribute) % 8);
+        let table = VALUES[attribute];
+        *value = table.get(choice).copied().unwrap_or(input.free());
+    }
+    Values::from_array(values)
+}
+
+fn composed(input: &Input) -> usize {
+    match input.choice(Choice::Composed) {
+        0 => 200,
+        1 => 180,
+        2 => 179,
+        3 => 181,
+        4 => 65_537,
+        other => usize::from(other),
+    }
+}
+
+fn place(input: &Input, length: usize) -> usize {
+    match input.choice(Choice::Place) {
+        0 => 36,
+        1 => 0,
+        2 => length,
+        3 => length.saturating_sub(1),
+        4 => length.saturating_sub(16),
+        5 => length.saturating_add(1),
+        6 => usize::MAX,
+        7 => usize::MAX - 15,
+        8 => input.free() as usize,
+        other => 4 * usize::from(other),
+    }
+}
+
+fn depth(input: &Input) -> u32 {
+    match input.choice(Choice::Depth) {
+        1 => 0,
+        2 => 8,
+        3 => 9,
+        4 => u32::MAX,
+        5 => input.free(),
+        _ => 1,
+    }
+}
+
+fn number(input: &Input) -> usize {
+    match input.choice(Choice::Number) {
+        6 => usize::MAX,
+        7 => input.free() as usize,
+        other => usize::from(other % 8),
+    }
+}
+
+/// Names that are often there, or any number.
+fn identifier(input: &Input) -> u32 {
+    let choice = input.choice(Choice::Name);
+    let name = NAMES.get(usize::from(choice));
+    name.copied().unwrap_or(input.free())
+}

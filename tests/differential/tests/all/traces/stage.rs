@@ -1,0 +1,32 @@
+//! A trace that events are given to, one after another.
+
+use decoder::{Event, Sheet};
+use differential::compare::events::{give, Buffers};
+use differential::ffi::{Answer, Done};
+
+/// A trace and its report buffer as the events so far have left them.
+#[derive(Clone, Debug, PartialEq, Eq)]
+pub struct Stage {
+    pub buffer: Vec<u8>,
+    pub length: usize,
+    pub report: Vec<u8>,
+}
+
+impl Stage {
+    /// What the next event may write to.
+    pub fn buffers(&mut self) -> Buffers<'_> {
+        Buffers {
+            message: &mut self.buffer,
+            report: &mut self.report,
+        }
+    }
+
+    pub fn library(&mut self, sheet: &Sheet, event: &Event, high: u32) -> (Answer, Done) {
+        let length = self.length;
+        let (answer, done) = give(&mut self.buffers(), length, sheet, event, high);
+        if !answer.is_refused() {
+            self.length = done.message_length as usize;
+        }
+        (answer, done)
+    }
+}
