@@ -1,8 +1,8 @@
 // The eight attributes among the direct members of the TraceRoute group.
 use crate::passing::pass;
-use pcf::MQCFT_INTEGER;
-use pcf::Row;
 use pcf::Stepped;
+use structure::MQCFT_INTEGER;
+use structure::Row;
 use wire::number_at;
 ghost use mathlib.Core.Path.{_≡_};
 ghost use Prim.Native.Nat.{_≤_};
@@ -10,7 +10,7 @@ ghost use lib.ListN.{length};
 ghost use Rattle.meaning.specs.Walk.{walk};
 ghost use Rattle.meaning.specs.Message.{partOf};
 ghost use Rattle.meaning.specs.Trace.{valuesAt};
-ghost use Rattle.pcf.specs.Rows.{rowOf};
+ghost use Rattle.structure.specs.Rows.{rowOf};
 ghost use Rattle.trace.specs.Marks.{noted, Noted, Marked, allFound, InReach};
 
 // An attribute has a mark: the place of its integer, or one of these, which are no places of structures. Once a member with

@@ -1,10 +1,10 @@
 // Passing over a structure with all that is inside it.
-use pcf::Extent;
 use pcf::Passed;
-use pcf::Row;
 use pcf::Stepped;
-use pcf::extent_at;
 use pcf::over;
+use structure::Extent;
+use structure::Row;
+use structure::extent_at;
 use wire::number_at;
 ghost use mathlib.Core.Path.{_≡_};
 ghost use Prim.Native.Nat.{_≤_};

@@ -4,7 +4,7 @@ use Prim.Native.Nat.{_-_, _≤_}
 use native.Mathlib.Omega.{arith}
 use borrow.Author.Needs.{needs}
 use lib.ListN.{length, getD, length-set}
-use Rattle.pcf.specs.Rows.{rowOf}
+use Rattle.structure.specs.Rows.{rowOf}
 use Rattle.trace.specs.Marks.{noted}
 use Rattle.attributes.proofs.Lists.{Filled, filled-next}
 use Rattle.trace.proofs.members.note_all.Statement.{statement}

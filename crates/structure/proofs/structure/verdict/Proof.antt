@@ -1,6 +1,6 @@
 -- `structure::verdict` meets its contract.
-use Rattle.pcf.proofs.structure.verdict.Statement.{statement}
-use Rattle.pcf.proofs.structure.verdict.Tie as tie
+use Rattle.structure.proofs.structure.verdict.Statement.{statement}
+use Rattle.structure.proofs.structure.verdict.Tie as tie
 
 pub verdict-spec : {M : Type 1} → statement M
 verdict-spec =

@@ -6,10 +6,10 @@ use borrow.Author.Needs.{needs}
 use denote.Ref.{now}
 use Rattle.meaning.specs.Message.{partOf}
 use Rattle.meaning.proofs.Structures.{structure-short}
-use Rattle.pcf.specs.Rows.{reachOf}
-use Rattle.pcf.proofs.Soundness.{tested}
-use Rattle.pcf.proofs.structure.extent_at.Statement.{statement}
-use Rattle.pcf.proofs.structure.extent_at.Tie as tie
+use Rattle.structure.specs.Rows.{reachOf}
+use Rattle.structure.proofs.Soundness.{tested}
+use Rattle.structure.proofs.structure.extent_at.Statement.{statement}
+use Rattle.structure.proofs.structure.extent_at.Tie as tie
 
 -- a test that was asked the other way round
 turned : {b c : Bool} → not b ≡ c → b ≡ not c

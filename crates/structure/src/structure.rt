@@ -11,8 +11,8 @@ ghost use lib.ListN.{length};
 ghost use Rattle.meaning.specs.Names.{«MQCFT_GROUP», mostDepth};
 ghost use Rattle.meaning.specs.Structure.{judged, structureAt};
 ghost use Rattle.meaning.specs.Message.{partOf};
-ghost use Rattle.pcf.specs.Rules.{Fields};
-ghost use Rattle.pcf.specs.Rows.{soundIn, rowOf, foundOf, reachOf, extentOf};
+ghost use Rattle.structure.specs.Rules.{Fields};
+ghost use Rattle.structure.specs.Rows.{soundIn, rowOf, foundOf, reachOf, extentOf};
 
 // The type of a group.
 pub const MQCFT_GROUP: u32 = 20;

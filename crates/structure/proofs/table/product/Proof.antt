@@ -2,9 +2,9 @@
 use mathlib.Core.Path.{refl}
 use Prim.Native.Nat.{_*_, _<_}
 use native.Mathlib.Omega.{arith}
-use Rattle.pcf.proofs.Wide.{below}
-use Rattle.pcf.proofs.table.product.Statement.{statement}
-use Rattle.pcf.proofs.table.product.Tie as tie
+use Rattle.structure.proofs.Wide.{below}
+use Rattle.structure.proofs.table.product.Statement.{statement}
+use Rattle.structure.proofs.table.product.Tie as tie
 
 in-63 : (c : tie.Start) → c .args .n * c .args .m < 9223372036854775808
 in-63 c = below 32 31 (c .fits .n .fits) (c .pre)

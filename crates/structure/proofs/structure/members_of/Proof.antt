@@ -1,7 +1,7 @@
 -- `structure::members_of` meets its contract.
 use borrow.Author.Tests.{eq-eqb, ne-eqb}
-use Rattle.pcf.proofs.structure.members_of.Statement.{statement}
-use Rattle.pcf.proofs.structure.members_of.Tie as tie
+use Rattle.structure.proofs.structure.members_of.Statement.{statement}
+use Rattle.structure.proofs.structure.members_of.Tie as tie
 
 pub members-of-spec : {M : Type 1} → statement M
 members-of-spec =

@@ -3,10 +3,10 @@ use mathlib.Core.Path.{_≡_, refl, _∙_}
 use native.Mathlib.Omega.{arith}
 use borrow.Author.Needs.{needs}
 use denote.Ref.{now}
-use Rattle.pcf.specs.Rules.{fieldOf}
-use Rattle.pcf.proofs.Lengths.{under, over, there, data-short, strings-short, values-in, data-in, strings-in}
-use Rattle.pcf.proofs.table.length_kept.Statement.{statement}
-use Rattle.pcf.proofs.table.length_kept.Tie as tie
+use Rattle.structure.specs.Rules.{fieldOf}
+use Rattle.structure.proofs.Lengths.{under, over, there, data-short, strings-short, values-in, data-in, strings-in}
+use Rattle.structure.proofs.table.length_kept.Statement.{statement}
+use Rattle.structure.proofs.table.length_kept.Tie as tie
 
 -- the fields that were read, as the rule has them
 first-field : (c : tie.Start) → c .args .first ≡ fieldOf (now (c .args .s)) (c .args .place) (c .args .size) 12

@@ -6,11 +6,11 @@ use Rattle.meaning.specs.Bytes.{Part, word}
 use Rattle.meaning.specs.Answer.{Result, accepted, andThen}
 use Rattle.meaning.specs.Structure.{Row as Structure, lengthRule}
 use Rattle.answers.specs.Refusals.{refusal}
-use Rattle.pcf.specs.declared.structure.Row.{Row}
-use Rattle.pcf.specs.declared.structure.Found.{Found}
-use Rattle.pcf.specs.declared.structure.Found.the-variants.{Structure as found, Refused}
-use Rattle.pcf.specs.declared.structure.Extent.{Extent}
-use Rattle.pcf.specs.declared.structure.Extent.the-variants as extent
+use Rattle.structure.specs.declared.structure.Row.{Row}
+use Rattle.structure.specs.declared.structure.Found.{Found}
+use Rattle.structure.specs.declared.structure.Found.the-variants.{Structure as found, Refused}
+use Rattle.structure.specs.declared.structure.Extent.{Extent}
+use Rattle.structure.specs.declared.structure.Extent.the-variants as extent
 
 abbrev pub rowOf : Row → Structure
 rowOf r = record { depth = r .depth; place = r .place; kind = r .kind; parameter = r .parameter; size = r .size; members = r .members }

@@ -2,7 +2,7 @@
 use wire::number_at;
 ghost use mathlib.Core.Path.{_≡_};
 ghost use Prim.Native.Nat.{_+_, _<_};
-ghost use Rattle.pcf.specs.Rules.{kept, JudgesAs, fieldOf, Fields, Product};
+ghost use Rattle.structure.specs.Rules.{kept, JudgesAs, fieldOf, Fields, Product};
 
 // Counts and lengths from here on are faults.
 pub const TWO_TO_31: u32 = 2147483648;

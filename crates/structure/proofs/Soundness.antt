@@ -13,9 +13,9 @@ use Rattle.meaning.specs.Message.{partOf}
 use Rattle.meaning.proofs.Tests.{and-true, is-false}
 use Rattle.meaning.proofs.Structures.{rule-16}
 use Rattle.meaning.proofs.Parts.{num-part, word-part}
-use Rattle.pcf.specs.Rules.{kept, JudgesAs, fieldOf}
-use Rattle.pcf.specs.Rows.{soundIn}
-use Rattle.pcf.specs.declared.table.Rule.{Rule}
+use Rattle.structure.specs.Rules.{kept, JudgesAs, fieldOf}
+use Rattle.structure.specs.Rows.{soundIn}
+use Rattle.structure.specs.declared.table.Rule.{Rule}
 
 module _ (s : List ℕ) (end p t n : ℕ) where
   -- a sound structure ends in the message, and its length is one that its type allows

@@ -1,7 +1,7 @@
 -- `structure::too_deep` meets its contract.
 use borrow.Author.Tests.{eq-eqb, ne-eqb}
-use Rattle.pcf.proofs.structure.too_deep.Statement.{statement}
-use Rattle.pcf.proofs.structure.too_deep.Tie as tie
+use Rattle.structure.proofs.structure.too_deep.Statement.{statement}
+use Rattle.structure.proofs.structure.too_deep.Tie as tie
 
 pub too-deep-spec : {M : Type 1} → statement M
 too-deep-spec =

@@ -7,8 +7,8 @@ use lib.Dec.{leb, eqb}
 use lib.ListN.{length}
 use Rattle.meaning.specs.Bytes.{number}
 use Rattle.meaning.specs.Structure.{small, lengthRule}
-use Rattle.pcf.specs.declared.table.Rule.{Rule}
-use Rattle.pcf.specs.declared.table.Rule.the-variants.{Exact, Values, Data, Strings, Group, Unknown}
+use Rattle.structure.specs.declared.table.Rule.{Rule}
+use Rattle.structure.specs.declared.table.Rule.the-variants.{Exact, Values, Data, Strings, Group, Unknown}
 
 -- A structure of n bytes keeps the rule; `f k` is its field k bytes from its start.
 abbrev pub kept : Rule → ℕ → (ℕ → ℕ) → Bool

@@ -1,9 +1,9 @@
 -- `structure::is_sound` meets its contract.
 use borrow.Author.Needs.{needs}
 use denote.Ref.{now}
-use Rattle.pcf.proofs.Soundness.{past, tiny, odd, even}
-use Rattle.pcf.proofs.structure.is_sound.Statement.{statement}
-use Rattle.pcf.proofs.structure.is_sound.Tie as tie
+use Rattle.structure.proofs.Soundness.{past, tiny, odd, even}
+use Rattle.structure.proofs.structure.is_sound.Statement.{statement}
+use Rattle.structure.proofs.structure.is_sound.Tie as tie
 
 pub is-sound-spec : {M : Type 1} → statement M
 is-sound-spec =

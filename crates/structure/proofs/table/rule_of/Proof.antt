@@ -5,11 +5,11 @@ use native.Mathlib.Omega.{arith}
 use lib.Dec.{lit≤}
 use borrow.Author.Tests.{ne-eqb}
 use Rattle.meaning.specs.Structure.{lengthRule}
-use Rattle.pcf.specs.Rules.{JudgesAs}
-use Rattle.pcf.specs.declared.table.Rule.{Rule}
-use Rattle.pcf.specs.declared.table.Rule.the-variants.{Exact, Values, Data, Strings, Group, Unknown}
-use Rattle.pcf.proofs.table.rule_of.Statement.{statement}
-use Rattle.pcf.proofs.table.rule_of.Tie as tie
+use Rattle.structure.specs.Rules.{JudgesAs}
+use Rattle.structure.specs.declared.table.Rule.{Rule}
+use Rattle.structure.specs.declared.table.Rule.the-variants.{Exact, Values, Data, Strings, Group, Unknown}
+use Rattle.structure.proofs.table.rule_of.Statement.{statement}
+use Rattle.structure.proofs.table.rule_of.Tie as tie
 
 by-key : {k : ℕ} (t : ℕ) (r : Rule) → k ≡ t → JudgesAs t r → JudgesAs k r
 by-key t r e h = rw e h

@@ -9,8 +9,8 @@ use borrow.Author.Tests.{lt-ltb, le-ltb, lt-leb, le-leb}
 use Rattle.meaning.specs.Bytes.{number}
 use Rattle.meaning.specs.Structure.{small}
 use Rattle.meaning.proofs.Tests.{and-false}
-use Rattle.pcf.specs.Rules.{kept, fieldOf}
-use Rattle.pcf.specs.declared.table.Rule.the-variants.{Values, Data, Strings}
+use Rattle.structure.specs.Rules.{kept, fieldOf}
+use Rattle.structure.specs.declared.table.Rule.the-variants.{Values, Data, Strings}
 
 -- a count or length x that is one of the fields: below 2^31 the rest of the rule decides, else nothing does
 pub under : {x a : ℕ} {y z : Bool} → x ≡ a → x < 2147483648 → z ≡ y → z ≡ small a && y

@@ -14,10 +14,10 @@ use Rattle.meaning.proofs.Members.{members-shallow}
 use Rattle.meaning.proofs.Parts.{num-part}
 use Rattle.answers.specs.Refusals.{refusal}
 use Rattle.answers.specs.declared.Refusal.{Refusal}
-use Rattle.pcf.specs.Rows.{Reach, reachOf, extentOf}
-use Rattle.pcf.specs.declared.structure.Extent.{Extent}
-use Rattle.pcf.specs.declared.structure.Extent.the-variants.{Sound, Refused}
-use Rattle.pcf.proofs.Answers.{then-refused}
+use Rattle.structure.specs.Rows.{Reach, reachOf, extentOf}
+use Rattle.structure.specs.declared.structure.Extent.{Extent}
+use Rattle.structure.specs.declared.structure.Extent.the-variants.{Sound, Refused}
+use Rattle.meaning.proofs.Tests.{then-refused}
 
 -- a sound structure of the length n with k members
 pub record Reaches (m : Part) (p d n k : ℕ) : Type 0 where

@@ -6,9 +6,9 @@ use borrow.Author.Needs.{needs}
 use denote.Ref.{now}
 use Rattle.meaning.specs.Message.{partOf}
 use Rattle.meaning.proofs.Structures.{structure-short}
-use Rattle.pcf.proofs.Soundness.{tested}
-use Rattle.pcf.proofs.structure.structure_at.Statement.{statement}
-use Rattle.pcf.proofs.structure.structure_at.Tie as tie
+use Rattle.structure.proofs.Soundness.{tested}
+use Rattle.structure.proofs.structure.structure_at.Statement.{statement}
+use Rattle.structure.proofs.structure.structure_at.Tie as tie
 
 returns : tie.Need-returns
 returns c =
