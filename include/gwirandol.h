@@ -9,7 +9,15 @@
  *
  * A number answered is a gw_answer: gw_number() of it is 0, or the number of the refusal; gw_value() is what the function
  * gives, or the refusal's place in the message. A refusal changes no byte of anything lent, but for the two results that
- * have a value of their own for it: the counts of gw_tally, all 0, and the part of gw_activity_group, 0 and 0. */
+ * have a value of their own for it: the counts of gw_tally, all 0, and the part of gw_activity_group, 0 and 0.
+ *
+ * The examples below go on from each other. They are compiled and run by the project's tests, in a function that has
+ *
+ *     static uint8_t buffer[65536], text[GW_LISTING_BYTES], report[65536];
+ *     static const uint32_t sheet[8] = GW_IBM_SHEET;
+ *     size_t length;
+ *
+ * and an Activity group in `group`. */
 #ifndef GWIRANDOL_H
 #define GWIRANDOL_H
 
@@ -51,32 +59,25 @@ enum gw_refusal {
     GW_BAD_SHEET = 17               /* sheet: a number out of range or two equal */
 };
 
-/* CHECK: refusals 1 to 5. Gives the number of structures, nested ones included. */
-gw_answer gw_check(const uint8_t *buffer, size_t size, size_t length);
+/* The refusals that are IBM's feedbacks, by IBM's names. */
+enum gw_feedbacks {
+    GW_MQFB_MAX_ACTIVITIES = GW_MAX_ACTIVITIES,
+    GW_MQFB_UNSUPPORTED_DELIVERY = GW_UNSUPPORTED_DELIVERY,
+    GW_MQFB_UNSUPPORTED_FORWARDING = GW_UNSUPPORTED_FORWARDING,
+    GW_MQFB_NOT_FORWARDED = GW_NOT_FORWARDED
+};
 
-/* TALLY: answers as gw_check does, and counts[k] is the number of structures of type k, nested ones included. All counts
- * are 0 if the message is refused. */
-gw_answer gw_tally(const uint8_t *buffer, size_t size, size_t length, uint32_t counts[27]);
-
-/* LIST: refusals 1 to 5. Writes the listing's text, which always fits, and gives its length; what is behind it stays. */
-#define GW_LISTING_BYTES 131072
-gw_answer gw_list(const uint8_t *buffer, size_t size, size_t length, uint8_t text[GW_LISTING_BYTES]);
-
-/* A structure: depth, place, type, parameter, length; how many structures follow inside it (a group's count, else 0); and
- * the place behind this one structure, which for a group is the place of its first member. */
-typedef struct gw_row {
-    uint64_t depth;
-    uint64_t place;
-    uint64_t type;
-    uint64_t parameter;
-    uint64_t length;
-    uint64_t members;
-    uint64_t next;
-} gw_row;
-
-/* ONE STRUCTURE at any place, taken to have any depth. Gives 0 and the row, or refuses with 1, 3 or 4: the place of 3 and 4
- * is the one asked for, and gw_value() is 0. */
-gw_answer gw_step(const uint8_t *buffer, size_t size, size_t length, size_t place, uint32_t depth, gw_row *row);
+/* IBM's name of the feedback that goes with a refusal, or a null pointer: only 10 and 14 to 16 have one. */
+static inline const char *gw_feedback(uint32_t number)
+{
+    switch (number) {
+    case GW_MAX_ACTIVITIES: return "MQFB_MAX_ACTIVITIES";
+    case GW_UNSUPPORTED_DELIVERY: return "MQFB_UNSUPPORTED_DELIVERY";
+    case GW_UNSUPPORTED_FORWARDING: return "MQFB_UNSUPPORTED_FORWARDING";
+    case GW_NOT_FORWARDED: return "MQFB_NOT_FORWARDED";
+    default: return 0;
+    }
+}
 
 /* The eight attributes of a trace, as positions in a sheet and in a list of values. */
 enum gw_attribute {
@@ -94,10 +95,66 @@ enum gw_attribute {
 #define GW_IBM_SHEET {1234, 1235, 1257, 1237, 1236, 1238, 1259, 1239}
 
 /* COMPOSE: refusals 17, 8, 12. Writes a trace-route message of 180 bytes to the start of the buffer and gives 180; what is
- * behind it stays. */
+ * behind it stays.
+ *
+ *     const uint32_t values[8] = {2, 0, 0, 0, 5, 0x10004, 0x100, 0x1000};
+ *     length = gw_value(gw_compose(sheet, values, buffer, sizeof buffer));
+ *     printf("%zu bytes\n", length); */
 gw_answer gw_compose(const uint32_t sheet[8], const uint32_t values[8], uint8_t *buffer, size_t size);
 
-/* READ: refusals 17, then 1 to 8. Gives 0 and the eight values. */
+/* CHECK: refusals 1 to 5. Gives the number of structures, nested ones included.
+ *
+ *     gw_answer checked = gw_check(buffer, sizeof buffer, length);
+ *     if (gw_number(checked) == GW_ACCEPTED)
+ *         printf("%u structures\n", (unsigned)gw_value(checked));
+ *     else
+ *         printf("refused with %u at byte %u\n", (unsigned)gw_number(checked), (unsigned)gw_value(checked)); */
+gw_answer gw_check(const uint8_t *buffer, size_t size, size_t length);
+
+/* TALLY: answers as gw_check does, and counts[k] is the number of structures of type k, nested ones included. All counts
+ * are 0 if the message is refused.
+ *
+ *     uint32_t counts[27];
+ *     if (gw_number(gw_tally(buffer, sizeof buffer, length, counts)) == GW_ACCEPTED)
+ *         printf("%u groups\n", (unsigned)counts[20]); */
+gw_answer gw_tally(const uint8_t *buffer, size_t size, size_t length, uint32_t counts[27]);
+
+/* LIST: refusals 1 to 5. Writes the listing's text, which always fits, and gives its length; what is behind it stays.
+ *
+ *     gw_answer listed = gw_list(buffer, sizeof buffer, length, text);
+ *     if (gw_number(listed) == GW_ACCEPTED)
+ *         fwrite(text, 1, gw_value(listed), stdout); */
+#define GW_LISTING_BYTES 131072
+gw_answer gw_list(const uint8_t *buffer, size_t size, size_t length, uint8_t text[GW_LISTING_BYTES]);
+
+/* A structure: depth, place, type, parameter, length; how many structures follow inside it (a group's count, else 0); and
+ * the place behind this one structure, which for a group is the place of its first member. */
+typedef struct gw_row {
+    uint64_t depth;
+    uint64_t place;
+    uint64_t type;
+    uint64_t parameter;
+    uint64_t length;
+    uint64_t members;
+    uint64_t next;
+} gw_row;
+
+/* ONE STRUCTURE at any place, taken to have any depth. Gives 0 and the row, or refuses with 1, 3 or 4: the place of 3 and 4
+ * is the one asked for, and gw_value() is 0.
+ *
+ *     gw_row row;
+ *     for (size_t place = 36; place < length; place = row.next) {
+ *         if (gw_number(gw_step(buffer, sizeof buffer, length, place, 1, &row)) != GW_ACCEPTED)
+ *             break;
+ *         printf("type %u at byte %u\n", (unsigned)row.type, (unsigned)row.place);
+ *     } */
+gw_answer gw_step(const uint8_t *buffer, size_t size, size_t length, size_t place, uint32_t depth, gw_row *row);
+
+/* READ: refusals 17, then 1 to 8. Gives 0 and the eight values; refused, the values stay.
+ *
+ *     uint32_t read[8];
+ *     if (gw_number(gw_read(buffer, sizeof buffer, length, sheet, read)) == GW_ACCEPTED)
+ *         printf("at most %u activities\n", (unsigned)read[GW_MAX_ACTIVITIES_LIMIT]); */
 gw_answer gw_read(const uint8_t *buffer, size_t size, size_t length, const uint32_t sheet[8], uint32_t values[8]);
 
 enum gw_decision {
@@ -107,27 +164,21 @@ enum gw_decision {
 };
 
 /* FORWARDING to a remote queue manager that supports trace-route messaging or does not: refusals as gw_read's, then 14, 15
- * and 16. Gives GW_FORWARD. */
+ * and 16. Gives GW_FORWARD.
+ *
+ *     gw_answer forward = gw_forward(buffer, sizeof buffer, length, sheet, false);
+ *     if (gw_number(forward) == GW_ACCEPTED)
+ *         printf("forwarded\n");
+ *     else if (gw_feedback(gw_number(forward)))
+ *         printf("not forwarded: %s\n", gw_feedback(gw_number(forward))); */
 gw_answer gw_forward(const uint8_t *buffer, size_t size, size_t length, const uint32_t sheet[8], bool supporting);
 
-/* ARRIVAL: refusals as gw_read's, then 14. Gives GW_PUT or GW_WITHHOLD. */
+/* ARRIVAL: refusals as gw_read's, then 14. Gives GW_PUT or GW_WITHHOLD.
+ *
+ *     gw_answer arrival = gw_arrive(buffer, sizeof buffer, length, sheet);
+ *     if (gw_number(arrival) == GW_ACCEPTED)
+ *         printf("%s\n", gw_value(arrival) == GW_PUT ? "put on the queue" : "withheld"); */
 gw_answer gw_arrive(const uint8_t *buffer, size_t size, size_t length, const uint32_t sheet[8]);
-
-/* A part of a message. */
-typedef struct gw_part {
-    uint64_t place;
-    uint64_t length;
-} gw_part;
-
-/* THE N-TH ACTIVITY GROUP, from 0, with all that is in it: the part of the message that it is; place 0 and length 0 if there
- * is none, or if message or sheet is refused as in gw_read. */
-void gw_activity_group(const uint8_t *buffer, size_t size, size_t length, const uint32_t sheet[8], size_t n, gw_part *part);
-
-/* A NAMED STRING: the first direct string with the identifier in the n-th Activity group. True, and the part of the message
- * that it is, without its trailing blanks; or false, and the part as it was: there is no such string, or message or sheet is
- * refused as in gw_read, and the caller takes its substitute. */
-bool gw_named_string(const uint8_t *buffer, size_t size, size_t length, const uint32_t sheet[8], size_t n,
-                     uint32_t identifier, gw_part *part);
 
 /* What an accepted event did: which counter rose (GW_RECORDED_ACTIVITIES, GW_UNRECORDED_ACTIVITIES or
  * GW_DISCONTINUITY_COUNT), whether the group was appended (1 or 0), the report's length or 0, the message's length now. */
@@ -144,16 +195,55 @@ enum gw_level {
     GW_HIGH = 3
 };
 
-/* A DISCONTINUITY: refusals as gw_read's, then 10 and 11. Gives the message's length, which does not change. */
+/* A DISCONTINUITY: refusals as gw_read's, then 10 and 11. Gives the message's length, which does not change. Accepted,
+ * DiscontinuityCount is one higher and no other byte of the buffer changes; refused, buffer and `done` stay.
+ *
+ *     gw_done done;
+ *     if (gw_number(gw_discontinuity(buffer, sizeof buffer, length, sheet, &done)) == GW_ACCEPTED)
+ *         printf("counter %u rose\n", (unsigned)done.counter); */
 gw_answer gw_discontinuity(uint8_t *buffer, size_t size, size_t length, const uint32_t sheet[8], gw_done *done);
 
 /* AN ACTIVITY: refusals as gw_read's, then 9 to 13. Gives the message's new length. The lent group is one whole Activity
  * group; where it is appended it is written behind the message and the header's count rises. Where a report is due it is
  * written to the start of the report buffer; what is behind it stays. A level that is not one of gw_level's counts as
- * GW_HIGH. */
+ * GW_HIGH. Refused, both buffers and `done` stay.
+ *
+ *     gw_answer applied = gw_activity(buffer, sizeof buffer, length, sheet, GW_MEDIUM, group, sizeof group, true, true, true,
+ *                                     report, sizeof report, &done);
+ *     if (gw_number(applied) == GW_ACCEPTED) {
+ *         length = gw_value(applied);
+ *         printf("%zu bytes now, a report of %u\n", length, (unsigned)done.report_length);
+ *     } else if (gw_number(applied) == GW_MAX_ACTIVITIES && gw_value(applied) == 1) {
+ *         printf("the limit is reached, and a reply is owed\n");
+ *     } */
 gw_answer gw_activity(uint8_t *buffer, size_t size, size_t length, const uint32_t sheet[8], uint32_t level,
                       const uint8_t *group, size_t group_size, bool reports_asked, bool activity_recording,
                       bool trace_route_messaging, uint8_t *report, size_t report_size, gw_done *done);
+
+/* A part of a message. */
+typedef struct gw_part {
+    uint64_t place;
+    uint64_t length;
+} gw_part;
+
+/* THE N-TH ACTIVITY GROUP, from 0, with all that is in it: the part of the message that it is; place 0 and length 0 if there
+ * is none, or if message or sheet is refused as in gw_read.
+ *
+ *     gw_part part;
+ *     gw_activity_group(buffer, sizeof buffer, length, sheet, 0, &part);
+ *     printf("%u bytes from byte %u on\n", (unsigned)part.length, (unsigned)part.place); */
+void gw_activity_group(const uint8_t *buffer, size_t size, size_t length, const uint32_t sheet[8], size_t n, gw_part *part);
+
+/* A NAMED STRING: the first direct string with the identifier in the n-th Activity group. True, and the part of the message
+ * that it is, without its trailing blanks; or false, and the part as it was: there is no such string, or message or sheet is
+ * refused as in gw_read, and the caller takes its substitute.
+ *
+ *     if (gw_named_string(buffer, sizeof buffer, length, sheet, 0, 3012, &part))
+ *         printf("%.*s\n", (int)part.length, (const char *)buffer + part.place);
+ *     else
+ *         printf("unknown\n"); */
+bool gw_named_string(const uint8_t *buffer, size_t size, size_t length, const uint32_t sheet[8], size_t n,
+                     uint32_t identifier, gw_part *part);
 
 #ifdef __cplusplus
 }

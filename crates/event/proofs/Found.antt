@@ -16,10 +16,10 @@ use Rattle.meaning.proofs.Outcomes.{read-refused as unread}
 use Rattle.trace.specs.Locations.{Attributes, Done, done, answerOf, located, locatedOf}
 use Rattle.trace.specs.declared.location.Answer.the-variants as told
 use Rattle.trace.specs.declared.location.Located.{Located}
-use Rattle.event.specs.Events.{activityOf}
+use Rattle.verdict.specs.Plans.{activityOf}
 use Rattle.event.specs.Written.{Ready, Countable}
-use Rattle.event.specs.declared.plan.Level.{Level}
-use Rattle.event.specs.declared.plan.Settings.{Settings}
+use Rattle.verdict.specs.declared.plan.Level.{Level}
+use Rattle.verdict.specs.declared.plan.Settings.{Settings}
 use Rattle.event.proofs.Entries.{event-refused, event-unsound}
 
 -- two constructors are never equal

@@ -1,6 +1,4 @@
 mod Groups
-mod Plans
-mod Verdicts
 mod Writes
 mod Entries
 mod Found

@@ -1,16 +1,17 @@
 // An event on a trace that was read: decided, and then written.
-use crate::plan::Plan;
-use crate::plan::index_of;
-use crate::plan::plan_discontinuity;
-use crate::verdict::Answer;
-use crate::verdict::decide;
 use crate::written::write_message;
 use crate::written::write_report_if;
+use verdict::Answer;
+use verdict::Plan;
+use verdict::decide;
+use verdict::index_of;
+use verdict::plan_discontinuity;
 use wire::put_number;
 ghost use mathlib.Core.Path.{_≡_};
 ghost use lib.ListN.{length};
 ghost use Rattle.meaning.specs.Event.{applied, decide as decideOn, leaving};
-ghost use Rattle.event.specs.Events.{planned, outcome, state, Counts};
+ghost use Rattle.verdict.specs.Plans.{planned};
+ghost use Rattle.event.specs.Events.{outcome, state, Counts};
 ghost use Rattle.event.specs.Written.{Ready, Countable};
 
 // Behind Type, StrucLength and Parameter of an integer stands its Value.

@@ -6,25 +6,22 @@
 // the answers and states that the theorem speaks of.
 mod entered;
 mod group;
-mod plan;
-mod verdict;
 mod written;
 
 use answers::Refusal;
 use entered::count;
 use entered::enter;
 use group::group_ok;
-use plan::plan_activity;
 use trace::locate;
+use verdict::Answer;
+use verdict::Level;
+use verdict::Settings;
+use verdict::plan_activity;
 ghost use mathlib.Core.Path.{_≡_};
 ghost use Rattle.meaning.specs.Event.{event};
-ghost use Rattle.trace.specs.Composes.{termsOf};
-ghost use Rattle.event.specs.Events.{activityOf, outcome, state, Discontinues};
-pub use plan::Counter;
-pub use plan::Level;
-pub use plan::Settings;
-pub use verdict::Answer;
-pub use verdict::Done;
+ghost use Rattle.attributes.specs.Terms.{termsOf};
+ghost use Rattle.verdict.specs.Plans.{activityOf};
+ghost use Rattle.event.specs.Events.{outcome, state, Discontinues};
 
 // A DISCONTINUITY: DiscontinuityCount rises by one.
 pub fn discontinuity(buf: &mut [u8], len: usize, sheet: [u32; 8]) -> Answer

@@ -1,6 +1,6 @@
 // What an accepted event writes: the counter's new value, and behind the message the group.
-use trace::Kind;
-use trace::put_header;
+use compose::Kind;
+use compose::put_header;
 use wire::copy_to;
 use wire::number_at;
 use wire::put_number;

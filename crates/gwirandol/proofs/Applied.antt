@@ -15,14 +15,16 @@ use Rattle.meaning.proofs.Sound.{sound}
 use Rattle.meaning.proofs.Outcomes.{read-refused}
 use Rattle.answers.specs.Refusals.{numberOf, placeOf, owed}
 use Rattle.answers.specs.declared.Refusal.{Refusal}
-use Rattle.event.specs.Events.{answerOf, counterOf, outcome, levelOf, activityOf, settingsOf}
-use Rattle.event.specs.declared.plan.Level.{Level}
-use Rattle.event.specs.declared.plan.Settings.{Settings}
-use Rattle.event.specs.declared.verdict.Done.{Done}
-use Rattle.event.specs.declared.verdict.Answer.{Answer as Said}
-use Rattle.event.specs.declared.verdict.Answer.the-variants as answer
-use Rattle.gwirandol.specs.Traces.{terms}
-use Rattle.gwirandol.specs.Events.{levelIn, activityIn, Brief, Tells, Applies}
+use Rattle.verdict.specs.Plans.{answerOf, counterOf, levelOf, activityOf, settingsOf}
+use Rattle.event.specs.Events.{outcome}
+use Rattle.verdict.specs.declared.plan.Level.{Level}
+use Rattle.verdict.specs.declared.plan.Settings.{Settings}
+use Rattle.verdict.specs.declared.answer.Done.{Done}
+use Rattle.verdict.specs.declared.answer.Answer.{Answer as Said}
+use Rattle.verdict.specs.declared.answer.Answer.the-variants as answer
+use Rattle.attributes.specs.Terms.{termsOf}
+use Rattle.codes.specs.Events.{levelIn, Brief, Tells}
+use Rattle.gwirandol.specs.Events.{activityIn, Applies}
 
 -- THE ANSWER is brief: a message that is appended to stays below the most bytes
 when-brief : (b : Bool) (x y : Answer) → Brief x → (b ≡ false → Brief y) → Brief (when b x y)
@@ -51,42 +53,27 @@ left-brief : (st st′ : State) (a : Answer) → Brief a → Brief (leaving st s
 left-brief st st′ (done d) f = f
 left-brief st st′ (denied n p o) f = f
 
-pub event-brief : (sheet : List ℕ) (st : State) (e : Event) → Brief (event (terms sheet) st e .answer)
+pub event-brief : (sheet : List ℕ) (st : State) (e : Event) → Brief (event (termsOf sheet) st e .answer)
 unfolding event onTrace
-event-brief sheet st e = by (readTrace (terms sheet) (st .buf) (st .len)) refl
+event-brief sheet st e = by (readTrace (termsOf sheet) (st .buf) (st .len)) refl
   where
     go : (t : Trace) → st .len ≤ 65536 → (b : Bool)
         → Brief (unless b (record { answer = denied 9 0 false; next = st }) (leaving st (performed st e t) (decided st e (t .values))) .answer)
     go t h true = left-brief st (performed st e t) (decided st e (t .values)) (decide-brief _ _ _ _ _ _ h)
     go t h false = omega arith
 
-    by : (x : Result Trace) → readTrace (terms sheet) (st .buf) (st .len) ≡ x → Brief (onRead st e x .answer)
-    by (accepted t) h = go t (sound (terms sheet) (st .buf) (st .len) t h .lies .most) (soundEvent e)
-    by (refused n p) h = read-refused (terms sheet) (st .buf) (st .len) n p h .place
-
--- a flag is a bit
-pub bit : (b : Bool) → cond b 1 0 ≤ 1
-bit true = omega arith
-bit false = omega arith
-
--- A TOLD ANSWER, by its cases
-pub told-denied : (x : Said) (r : Refusal) → x ≡ answer.Refused r → (before : List ℕ) (n : ℕ)
-    → n ≡ (placeOf r + cond (owed r) 1 0) * 32 + numberOf r → Tells (answerOf x) before n before
-told-denied x r e before n c = rw e (record { answer = c; done = refl })
-
-pub told-done : (x : Said) (d : Done) → x ≡ answer.Done d → (before : List ℕ) (n counter appended : ℕ)
-    → n ≡ d .message * 32 → counter ≡ counterOf (d .counter) → appended ≡ cond (d .appended) 1 0
-    → Tells (answerOf x) before n (counter ∷ appended ∷ d .report ∷ d .message ∷ [])
-told-done x d e before n counter appended c f g = rw e (record { answer = c; done = rw (f, g) refl })
+    by : (x : Result Trace) → readTrace (termsOf sheet) (st .buf) (st .len) ≡ x → Brief (onRead st e x .answer)
+    by (accepted t) h = go t (sound (termsOf sheet) (st .buf) (st .len) t h .lies .most) (soundEvent e)
+    by (refused n p) h = read-refused (termsOf sheet) (st .buf) (st .len) n p h .place
 
 -- an activity by its level's number
 pub at-level : (o : Outcome) (sheet : List ℕ) (st : State) (l : Level) (n : ℕ) (g : List ℕ) (asked : Bool) (s : Settings) → levelOf l ≡ levelIn n
-    → o ≡ event (terms sheet) st (activityOf l g asked s) → o ≡ event (terms sheet) st (activityIn n g asked (s .recording) (s .messaging))
-at-level o sheet st l n g asked s e h = h ∙ ap (λ (k : Rank). event (terms sheet) st (activity (record { level = k; group = g; reportsAsked = asked }) (settingsOf s))) e
+    → o ≡ event (termsOf sheet) st (activityOf l g asked s) → o ≡ event (termsOf sheet) st (activityIn n g asked (s .recording) (s .messaging))
+at-level o sheet st l n g asked s e h = h ∙ ap (λ (k : Rank). event (termsOf sheet) st (activity (record { level = k; group = g; reportsAsked = asked }) (settingsOf s))) e
 
 -- WHAT IS TOLD of an event that answers x
-module _ (sheet : List ℕ) (st : State) (e : Event) (x : Said) (len : ℕ) (buf report : List ℕ) (h : outcome x len buf report ≡ event (terms sheet) st e) where
-  answered : answerOf x ≡ event (terms sheet) st e .answer
+module _ (sheet : List ℕ) (st : State) (e : Event) (x : Said) (len : ℕ) (buf report : List ℕ) (h : outcome x len buf report ≡ event (termsOf sheet) st e) where
+  answered : answerOf x ≡ event (termsOf sheet) st e .answer
   answered = ap (λ (o : Outcome). o .answer) h
 
   pub brief : Brief (answerOf x)

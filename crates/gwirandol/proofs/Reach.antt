@@ -1,7 +1,7 @@
 -- Every answer fits its number: places and lengths are small.
 use mathlib.Core.Path.{_≡_, refl}
 use mathlib.Core.List.{List}
-use Prim.Native.Nat.{ℕ, _*_, _≤_, _<_}
+use Prim.Native.Nat.{ℕ, _≤_}
 use native.Mathlib.Omega.{arith}
 use lib.ListN.{length}
 use lib.Dec.{leb}
@@ -11,13 +11,6 @@ use Rattle.meaning.specs.Trace.{Terms, Trace, value, sheetOk, readTrace, read}
 use Rattle.meaning.specs.Names.{Forward as Forward·, Deliver}
 use Rattle.meaning.specs.Decision.{Decision, unrecognised, deliverYes, ifSupported, forwardBy, arriveBy, forwarding, arrival}
 use Rattle.meaning.proofs.Tests.{clash}
-use Rattle.trace.specs.Decisions.{judgedOf}
-use Rattle.trace.specs.declared.decisions.Decision.{Decision as Decided}
-use Rattle.trace.specs.declared.decisions.Decision.the-variants.{Forward, PutLocally, Withhold}
-use Rattle.trace.specs.declared.decisions.Judged.the-variants.{Decided as Decides}
-use Rattle.answers.specs.Refusals.{numberOf}
-use Rattle.answers.specs.declared.Refusal.{Refusal}
-use Rattle.answers.specs.declared.Refusal.the-variants.{BadLength, BadHeader, BadStructure, TooDeep, LeftOver, NoTraceHeader, NoTraceRoute, BadAttribute, BadGroup, MaxActivities, CounterFull, NoRoom, ReportTooShort, UnsupportedDelivery, UnsupportedForwarding, NotForwarded, BadSheet}
 use Rattle.meaning.specs.Compose.{composedLength, valuesOk, composeAnswer, compose}
 use Rattle.meaning.specs.Structure.{Row}
 use Rattle.meaning.specs.Message.{partOf, scan, check}
@@ -26,28 +19,8 @@ use Rattle.meaning.proofs.Tallies.{rows-room}
 use Rattle.meaning.proofs.Sound.{sound-scan}
 use Rattle.meaning.proofs.Outcomes.{scan-refused, read-refused}
 use Rattle.meaning.proofs.Lines.{listing-most}
-use Rattle.gwirandol.specs.Codes.{code, Fits}
-use Rattle.gwirandol.specs.Traces.{decided, decisionOf}
-
--- a refusal's number is below 32: number and place can be told from the answer
-pub number-below : (r : Refusal) → numberOf r < 32
-number-below BadLength = omega arith
-number-below BadHeader = omega arith
-number-below (BadStructure p) = omega arith
-number-below (TooDeep p) = omega arith
-number-below (LeftOver p) = omega arith
-number-below NoTraceHeader = omega arith
-number-below NoTraceRoute = omega arith
-number-below BadAttribute = omega arith
-number-below BadGroup = omega arith
-number-below (MaxActivities owed) = omega arith
-number-below CounterFull = omega arith
-number-below NoRoom = omega arith
-number-below ReportTooShort = omega arith
-number-below UnsupportedDelivery = omega arith
-number-below UnsupportedForwarding = omega arith
-number-below NotForwarded = omega arith
-number-below BadSheet = omega arith
+use Rattle.codes.specs.Codes.{Fits}
+use Rattle.codes.specs.Decisions.{decided}
 
 check-of : (buf : List ℕ) (len : ℕ) (r : Result (List Row)) → scan buf len ≡ r → Fits (andThen r (λ rows. accepted (length rows)))
 check-of buf len (accepted rows) e = let a = sound-scan buf len rows e in omega (arith, rows-room (a .1 .tree), a .0 .most)
@@ -85,17 +58,7 @@ read-small tm buf len n p e = by (readTrace tm buf len) refl e
     by (accepted t) h f = absurd (clash (cc))
     by (refused k q) h f = let z : q ≡ p = cc in omega (arith, read-refused tm buf len k q h .place)
 
--- decisions are small, and what refuses them has the place 0
-pub decision-small : (d : Decided) → decisionOf d ≤ 3
-decision-small Forward = omega arith
-decision-small PutLocally = omega arith
-decision-small Withhold = omega arith
-
-pub decision-code : (n : ℕ) (d : Decided) → n ≡ decisionOf d → n * 32 ≡ code (decided (judgedOf (Decides d)))
-decision-code n Forward e = rw e refl
-decision-code n PutLocally e = rw e refl
-decision-code n Withhold e = rw e refl
-
+-- what refuses a decision has the place 0
 when-fits : (b : Bool) (x y : Result Decision) → Fits (decided x) → Fits (decided y) → Fits (decided (when b x y))
 when-fits true x y f g = f
 when-fits false x y f g = g

@@ -4,10 +4,10 @@ use mathlib.Core.Bool.{true, false}
 use mathlib.Core.List.{List, [], _∷_}
 use Prim.Native.Nat.{ℕ}
 use Rattle.meaning.specs.Activity.{Name}
-use Rattle.trace.specs.Naming.{namedIn}
-use Rattle.trace.specs.declared.activities.Span.{Span}
-use Rattle.trace.specs.declared.names.Named.{Named}
-use Rattle.trace.specs.declared.names.Named.the-variants.{InMessage, Substitute}
+use Rattle.activities.specs.Naming.{namedIn}
+use Rattle.activities.specs.declared.group.Span.{Span}
+use Rattle.activities.specs.declared.names.Named.{Named}
+use Rattle.activities.specs.declared.names.Named.the-variants.{InMessage, Substitute}
 use Rattle.gwirandol.specs.Traces.{Names}
 
 module _ (x : Named) (name : Name) (h : namedIn x ≡ name) (before : List ℕ) where

@@ -8,7 +8,7 @@ use Rattle.answers.specs.Refusals.{numberOf, refusal}
 use Rattle.answers.specs.declared.Refusal.{Refusal}
 use Rattle.pcf.specs.Rows.{rowOf}
 use Rattle.pcf.specs.declared.structure.Row.{Row}
-use Rattle.gwirandol.specs.Codes.{Steps}
+use Rattle.gwirandol.specs.Structures.{Steps}
 
 pub steps-refused : (buf : List ℕ) (len place depth : ℕ) (before : List ℕ) (n : ℕ) (r : Refusal) → step buf len place depth ≡ refusal r → n ≡ numberOf r
     → Steps buf len place depth before n before

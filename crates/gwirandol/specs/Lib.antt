@@ -1,3 +1,3 @@
-pub mod Codes
+pub mod Structures
 pub mod Traces
 pub mod Events

@@ -1,5 +1,4 @@
 // The functions for C: libgwirandol.a, declared in include/gwirandol.h.
-mod code;
 mod events;
 mod structures;
 mod traces;

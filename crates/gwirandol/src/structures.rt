@@ -1,26 +1,12 @@
 // Check, tally, listing, and one structure at a time.
-use crate::code::given;
-use crate::code::refused;
-use listing::Listed;
-use pcf::Checked;
+use codes::checked;
+use codes::listed;
 use pcf::Cursor;
 use pcf::Stepped;
 ghost use mathlib.Core.Path.{_≡_};
 ghost use Rattle.meaning.specs.Message.{check};
-ghost use Rattle.gwirandol.specs.Codes.{code, Fits, Tallies, Lists, Steps};
-ghost use Rattle.pcf.specs.Messages.{checkedOf};
-ghost use Rattle.listing.specs.Entries.{listedOf};
-
-// The check's answer.
-fn checked(found: Checked) -> u64
-    requires { ⌜ Fits (checkedOf found) ⌝ }
-    ensures { λ r. ⌜ r ≡ code (checkedOf found) ⌝ }
-{
-    match found {
-        Checked::Sound(n) => given(n as usize),
-        Checked::Refused(r) => refused(r),
-    }
-}
+ghost use Rattle.codes.specs.Codes.{code};
+ghost use Rattle.gwirandol.specs.Structures.{Tallies, Lists, Steps};
 
 // CHECK: the number of structures, or 1 to 5.
 #[no_mangle]
@@ -40,17 +26,6 @@ pub extern "C" fn gw_tally(buffer: &[u8], length: usize, counts: &mut [u32; 27])
     *counts = told;
     let answer = tallied.answer;
     checked(answer)
-}
-
-// The listing's answer.
-fn listed(found: Listed) -> u64
-    requires { ⌜ Fits (listedOf found) ⌝ }
-    ensures { λ r. ⌜ r ≡ code (listedOf found) ⌝ }
-{
-    match found {
-        Listed::Text(n) => given(n),
-        Listed::Refused(r) => refused(r),
-    }
 }
 
 // LIST: the text's length, or 1 to 5. A refusal leaves the text as it was.

@@ -1,29 +1,16 @@
 // Compose, read, the decisions, Activity groups and names.
-use crate::code::given;
-use crate::code::refused;
+use activities::Named;
+use codes::composed;
+use codes::judged;
+use codes::refused;
 use trace::Answer;
-use trace::Composed;
-use trace::Decision;
-use trace::Judged;
-use trace::Named;
 ghost use mathlib.Core.Path.{_≡_};
-ghost use Rattle.gwirandol.specs.Codes.{code, Fits};
-ghost use Rattle.gwirandol.specs.Traces.{Composes, Reads, decisionOf, decided, Spans, Names, terms};
+ghost use Rattle.codes.specs.Codes.{code};
+ghost use Rattle.attributes.specs.Terms.{termsOf};
+ghost use Rattle.codes.specs.Decisions.{decided};
+ghost use Rattle.gwirandol.specs.Traces.{Composes, Reads, Spans, Names};
 ghost use Rattle.meaning.specs.Activity.{nameOf};
 ghost use Rattle.meaning.specs.Decision.{forwarding, arrival};
-ghost use Rattle.trace.specs.Composes.{composedOf};
-ghost use Rattle.trace.specs.Decisions.{judgedOf};
-
-// Compose's answer.
-fn composed(found: Composed) -> u64
-    requires { ⌜ Fits (composedOf found) ⌝ }
-    ensures { λ r. ⌜ r ≡ code (composedOf found) ⌝ }
-{
-    match found {
-        Composed::Written(n) => given(n),
-        Composed::Refused(r) => refused(r),
-    }
-}
 
 // COMPOSE: 180 bytes are written, or 17, 8 or 12 and the buffer stays.
 #[no_mangle]
@@ -32,7 +19,7 @@ pub extern "C" fn gw_compose(sheet: &[u32; 8], values: &[u32; 8], buffer: &mut [
 {
     let s = *sheet;
     let v = *values;
-    composed(trace::compose(s, v, buffer))
+    composed(compose::compose(s, v, buffer))
 }
 
 // READ: 0 and the eight values, or 17, then 1 to 8 and the values stay.
@@ -58,28 +45,6 @@ pub extern "C" fn gw_read(
     }
 }
 
-// A decision's number for C.
-fn number_of(decision: Decision) -> usize
-    ensures { λ r. ⌜ r ≡ decisionOf decision ⌝ }
-{
-    match decision {
-        Decision::Forward => 1,
-        Decision::PutLocally => 2,
-        Decision::Withhold => 3,
-    }
-}
-
-// A decision, or the refusal.
-fn judged(found: Judged) -> u64
-    requires { ⌜ Fits (decided (judgedOf found)) ⌝ }
-    ensures { λ r. ⌜ r ≡ code (decided (judgedOf found)) ⌝ }
-{
-    match found {
-        Judged::Decided(d) => given(number_of(d)),
-        Judged::Refused(r) => refused(r),
-    }
-}
-
 // FORWARDING: 1, or Read's refusals, then 14, 15 and 16.
 #[no_mangle]
 pub extern "C" fn gw_forward(
@@ -88,7 +53,7 @@ pub extern "C" fn gw_forward(
     sheet: &[u32; 8],
     supporting: bool,
 ) -> u64
-    ensures { λ r. ⌜ r ≡ code (decided (forwarding (terms (now (sheet .entry))) (now (buffer .entry)) length supporting)) ⌝ }
+    ensures { λ r. ⌜ r ≡ code (decided (forwarding (termsOf (now (sheet .entry))) (now (buffer .entry)) length supporting)) ⌝ }
 {
     let s = *sheet;
     judged(trace::forward(buffer, length, s, supporting))
@@ -97,7 +62,7 @@ pub extern "C" fn gw_forward(
 // ARRIVAL: 2 to put, 3 to withhold, or Read's refusals, then 14.
 #[no_mangle]
 pub extern "C" fn gw_arrive(buffer: &[u8], length: usize, sheet: &[u32; 8]) -> u64
-    ensures { λ r. ⌜ r ≡ code (decided (arrival (terms (now (sheet .entry))) (now (buffer .entry)) length)) ⌝ }
+    ensures { λ r. ⌜ r ≡ code (decided (arrival (termsOf (now (sheet .entry))) (now (buffer .entry)) length)) ⌝ }
 {
     let s = *sheet;
     judged(trace::arrive(buffer, length, s))
@@ -115,7 +80,7 @@ pub extern "C" fn gw_activity_group(
     ensures { λ _. ⌜ Spans (now (buffer .entry)) length (now (sheet .entry)) n (now (part .exit)) ⌝ }
 {
     let s = *sheet;
-    let span = trace::activity_span(buffer, length, s, n);
+    let span = activities::activity_span(buffer, length, s, n);
     *part = [span.place as u64, span.length as u64];
 }
 
@@ -129,10 +94,10 @@ pub extern "C" fn gw_named_string(
     identifier: u32,
     part: &mut [u64; 2],
 ) -> bool
-    ensures { λ r. ⌜ Names (nameOf (terms (now (sheet .entry))) (now (buffer .entry)) length n identifier) (now (part .entry)) r (now (part .exit)) ⌝ }
+    ensures { λ r. ⌜ Names (nameOf (termsOf (now (sheet .entry))) (now (buffer .entry)) length n identifier) (now (part .entry)) r (now (part .exit)) ⌝ }
 {
     let s = *sheet;
-    let found = trace::name_span(buffer, length, s, n, identifier);
+    let found = activities::name_span(buffer, length, s, n, identifier);
     match found {
         Named::Substitute => false,
         Named::InMessage(span) => {

@@ -15,7 +15,10 @@ ghost use Rattle.pcf.specs.Rules.{Fields};
 ghost use Rattle.pcf.specs.Rows.{soundIn, rowOf, foundOf, reachOf, extentOf};
 
 // The type of a group.
-const MQCFT_GROUP: u32 = 20;
+pub const MQCFT_GROUP: u32 = 20;
+
+// The type of an integer parameter.
+pub const MQCFT_INTEGER: u32 = 3;
 
 // No group is deeper.
 const MOST_DEPTH: u32 = 8;

@@ -1,11 +1,5 @@
-mod Lists
-mod Tests
-mod Sheets
-mod Headers
-mod Composing
-mod Turns
+pub mod Turns
 mod Surveys
-mod Marking
-mod Locating
+pub mod Marking
+pub mod Locating
 pub mod Entries
-mod Namings

@@ -21,12 +21,12 @@ use Rattle.meaning.proofs.Scans.{scan-walk}
 use Rattle.meaning.proofs.Walks.{Walks, walks, walks-as, walk-of, in-nil, tiles, tiles-row}
 use Rattle.meaning.proofs.Parts.{num-part}
 use Rattle.meaning.proofs.Tops.{tiles-from, TopAt, all-at, all-groups, tops-at}
-use Rattle.trace.specs.Headers.{fieldsOf, startsWith}
+use Rattle.compose.specs.Headers.{fieldsOf, startsWith}
 use Rattle.trace.specs.Groups.{groupOf, counted, Surveyed, surveyed}
 use Rattle.trace.specs.Locations.{rowsIn, stop, found, attributesBy, attributesIn, judgedIn, Outcome, traced, located}
 use Rattle.trace.specs.declared.groups.Group.{Group}
 use Rattle.trace.specs.declared.groups.Counted.{Counted}
-use Rattle.trace.specs.declared.header.Kind.the-variants.{Trace as trace}
+use Rattle.compose.specs.declared.header.Kind.the-variants.{Trace as trace}
 use Rattle.trace.proofs.Marking.{Every, Placed, every-direct}
 
 -- WHERE THE MEMBERS of a group stand: behind its start, and in the message

@@ -25,7 +25,7 @@ use Rattle.meaning.proofs.Tops.{direct-next}
 use Rattle.trace.specs.Marks.{onto, noted, notedIn, markFrom, Marked, allFound, InReach}
 use Rattle.trace.specs.Passing.{passed}
 use Rattle.trace.specs.Locations.{rowsIn}
-use Rattle.trace.proofs.Lists.{rest-none, rest-next}
+use Rattle.attributes.proofs.Lists.{rest-none, rest-next}
 use Rattle.trace.proofs.Turns.{Over, walk-halt, walk-over}
 
 -- ALL FOUND, one mark after the other

@@ -1,10 +1,5 @@
-pub mod Decisions
-pub mod Headers
-pub mod Composes
 pub mod Passing
 pub mod Groups
 pub mod Marks
 pub mod Locations
 pub mod Readings
-pub mod Activities
-pub mod Naming

@@ -1,7 +1,9 @@
 // The top-level groups of a message: the TraceRoute group, and the n-th Activity group.
 use crate::passing::pass;
 use answers::Refusal;
+use compose::MQGACF_TRACE_ROUTE;
 use pcf::Ended;
+use pcf::MQCFT_GROUP;
 use pcf::Row;
 use pcf::Stepped;
 ghost use mathlib.Core.Path.{_≡_};
@@ -13,11 +15,7 @@ ghost use Rattle.answers.specs.Refusals.{refusal};
 ghost use Rattle.pcf.specs.Rows.{rowOf};
 ghost use Rattle.trace.specs.Groups.{noGroupYet, noneYet, countRow, Countable, surveyOf, surveyed};
 
-// The type of a group, and the identifiers of the groups that a trace is made of.
-pub const MQCFT_GROUP: u32 = 20;
-
-pub const MQGACF_TRACE_ROUTE: u32 = 8003;
-
+// The identifier of an Activity group.
 const MQGACF_ACTIVITY: u32 = 8005;
 
 // A group: its place, the place of what is inside it, its length with all of that, and how many direct members it has.

@@ -1,37 +1,18 @@
-// Trace-route messages: the sheet, the header, the eight attributes, Compose, Read, the decisions, and Activity groups.
-mod activities;
-mod composition;
-mod decisions;
+// Trace-route messages: the header, the TraceRoute group and its eight attributes, Read, and the decisions about a message.
 mod groups;
-mod header;
 mod location;
 mod members;
-mod names;
 mod passing;
-mod ranges;
 mod reading;
-mod sheet;
 
-pub use activities::Span;
-pub use activities::activity_group;
-pub use activities::activity_span;
-pub use composition::Composed;
-pub use composition::compose;
-pub use decisions::Decision;
-pub use decisions::Judged;
-pub use decisions::arrive_by;
-pub use decisions::forward_by;
-pub use header::Kind;
-pub use header::put_header;
+pub use groups::Group;
 pub use location::Answer;
 pub use location::Located;
+pub use location::Traced;
 pub use location::locate;
-pub use names::Named;
-pub use names::name_span;
-pub use names::named_string;
-pub use ranges::in_range;
+pub use location::trace_of;
+pub use passing::pass;
 pub use reading::Values;
 pub use reading::arrive;
 pub use reading::forward;
 pub use reading::read;
-pub use sheet::sheet_ok;

@@ -3,14 +3,14 @@ use crate::groups::Counted;
 use crate::groups::Group;
 use crate::groups::no_group;
 use crate::groups::survey;
-use crate::header::Kind;
-use crate::header::has_header;
 use crate::members::all_found;
 use crate::members::marks_of;
 use crate::members::values_at;
-use crate::ranges::in_range;
-use crate::sheet::sheet_ok;
 use answers::Refusal;
+use attributes::in_range;
+use attributes::sheet_ok;
+use compose::Kind;
+use compose::has_header;
 use pcf::Ended;
 use pcf::header_ok;
 use pcf::length_ok;
@@ -21,7 +21,7 @@ ghost use lib.ListN.{length};
 ghost use Rattle.meaning.specs.Message.{partOf};
 ghost use Rattle.meaning.specs.Trace.{readTrace};
 ghost use Rattle.answers.specs.Refusals.{numberOf, placeOf};
-ghost use Rattle.trace.specs.Composes.{termsOf};
+ghost use Rattle.attributes.specs.Terms.{termsOf};
 ghost use Rattle.trace.specs.Locations.{Within, Headed, stop, tracedOf, attributesIn, judgedIn, traced, locatedOf, located};
 
 // A sound trace, or 17, then 1 to 8.

@@ -1,5 +1,6 @@
 // The eight attributes among the direct members of the TraceRoute group.
 use crate::passing::pass;
+use pcf::MQCFT_INTEGER;
 use pcf::Row;
 use pcf::Stepped;
 use wire::number_at;
@@ -11,9 +12,6 @@ ghost use Rattle.meaning.specs.Message.{partOf};
 ghost use Rattle.meaning.specs.Trace.{valuesAt};
 ghost use Rattle.pcf.specs.Rows.{rowOf};
 ghost use Rattle.trace.specs.Marks.{noted, Noted, Marked, allFound, InReach};
-
-// The type of an attribute.
-pub const MQCFT_INTEGER: u32 = 3;
 
 // An attribute has a mark: the place of its integer, or one of these, which are no places of structures. Once a member with
 // its identifier is no integer, or comes second, it stays at fault.

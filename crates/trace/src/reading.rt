@@ -1,14 +1,14 @@
 // Read, and the decisions that rest on it.
-use crate::decisions::Judged;
-use crate::decisions::arrive_by;
-use crate::decisions::forward_by;
 use crate::location::Answer;
 use crate::location::trace_of;
+use attributes::Judged;
+use attributes::arrive_by;
+use attributes::forward_by;
 ghost use mathlib.Core.Path.{_≡_};
 ghost use Rattle.meaning.specs.Trace.{read as readOf};
 ghost use Rattle.meaning.specs.Decision.{forwarding, arrival};
-ghost use Rattle.trace.specs.Composes.{termsOf};
-ghost use Rattle.trace.specs.Decisions.{judgedOf};
+ghost use Rattle.attributes.specs.Terms.{termsOf};
+ghost use Rattle.attributes.specs.Decisions.{judgedOf};
 ghost use Rattle.trace.specs.Readings.{valuesOf, reading};
 
 // The eight values of a sound trace, in document 01's order; all 0 if refused.

@@ -5,7 +5,7 @@ use borrow.Author.Needs.{needs}
 use mathlib.Core.List.{List}
 use Prim.Native.Nat.{ℕ}
 use Rattle.meaning.specs.Event.{Plan, Answer, discontinuity, planOf, decide}
-use Rattle.event.specs.Events.{answerOf}
+use Rattle.verdict.specs.Plans.{answerOf}
 use Rattle.event.proofs.Entries.{count-length, count-place, count-denied, count-writable, count-written}
 use Rattle.event.proofs.entered.count.Statement.{statement}
 use Rattle.event.proofs.entered.count.Tie as tie

@@ -2,7 +2,7 @@
 use mathlib.Core.Path.{sym, ap, _∙_}
 use native.Mathlib.Omega.{arith}
 use borrow.Author.Needs.{needs}
-use Rattle.event.specs.Events.{answerOf}
+use Rattle.verdict.specs.Plans.{answerOf}
 use Rattle.event.proofs.Entries.{group-most, length-most, place-most, ready-writable, ready-reportable, ready-written, left-denied}
 use Rattle.event.proofs.entered.enter.Statement.{statement}
 use Rattle.event.proofs.entered.enter.Tie as tie

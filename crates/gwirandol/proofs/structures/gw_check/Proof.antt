@@ -1,7 +1,7 @@
 -- `structures::gw_check` meets its contract.
 use mathlib.Core.Path.{sym, ap, _∙_, subst}
 use borrow.Author.Needs.{needs}
-use Rattle.gwirandol.specs.Codes.{code, Fits}
+use Rattle.codes.specs.Codes.{code, Fits}
 use Rattle.gwirandol.proofs.Reach.{check-fits}
 use Rattle.gwirandol.proofs.structures.gw_check.Statement.{statement}
 use Rattle.gwirandol.proofs.structures.gw_check.Tie as tie

@@ -1,7 +1,7 @@
 -- `structures::gw_list` meets its contract.
 use mathlib.Core.Path.{sym, ap, _∙_, subst}
 use borrow.Author.Needs.{needs}
-use Rattle.gwirandol.specs.Codes.{code, Fits}
+use Rattle.codes.specs.Codes.{code, Fits}
 use Rattle.gwirandol.proofs.Reach.{list-fits}
 use Rattle.gwirandol.proofs.structures.gw_list.Statement.{statement}
 use Rattle.gwirandol.proofs.structures.gw_list.Tie as tie

@@ -2,7 +2,7 @@
 use mathlib.Core.Path.{sym, ap, _∙_, subst}
 use borrow.Author.Needs.{needs}
 use Rattle.meaning.specs.Message.{check, tally}
-use Rattle.gwirandol.specs.Codes.{code, Fits}
+use Rattle.codes.specs.Codes.{code, Fits}
 use Rattle.gwirandol.proofs.Reach.{check-fits}
 use Rattle.gwirandol.proofs.structures.gw_tally.Statement.{statement}
 use Rattle.gwirandol.proofs.structures.gw_tally.Tie as tie

@@ -1,8 +1,8 @@
 -- `traces::gw_arrive` meets its contract.
 use mathlib.Core.Path.{sym, ap, _∙_, subst}
 use borrow.Author.Needs.{needs}
-use Rattle.gwirandol.specs.Codes.{code, Fits}
-use Rattle.gwirandol.specs.Traces.{decided}
+use Rattle.codes.specs.Codes.{code, Fits}
+use Rattle.codes.specs.Decisions.{decided}
 use Rattle.meaning.specs.Answer.{Result}
 use Rattle.meaning.specs.Decision.{Decision}
 use Rattle.gwirandol.proofs.Reach.{arrive-fits}

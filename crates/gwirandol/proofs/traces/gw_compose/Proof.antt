@@ -2,7 +2,7 @@
 use mathlib.Core.Path.{sym, ap, _∙_, subst}
 use borrow.Author.Needs.{needs}
 use Rattle.meaning.specs.Compose.{Composed}
-use Rattle.gwirandol.specs.Codes.{code, Fits}
+use Rattle.codes.specs.Codes.{code, Fits}
 use Rattle.gwirandol.proofs.Reach.{compose-fits}
 use Rattle.gwirandol.proofs.traces.gw_compose.Statement.{statement}
 use Rattle.gwirandol.proofs.traces.gw_compose.Tie as tie

@@ -1,7 +1,7 @@
 -- `location::locate` meets its contract.
 use denote.Ref.{now}
 use Rattle.meaning.specs.Trace.{readTrace}
-use Rattle.trace.specs.Composes.{termsOf}
+use Rattle.attributes.specs.Terms.{termsOf}
 use Rattle.trace.proofs.Locating.{located-traced}
 use borrow.Author.Needs.{needs}
 use Rattle.trace.proofs.location.locate.Statement.{statement}

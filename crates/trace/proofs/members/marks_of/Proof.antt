@@ -9,7 +9,7 @@ use lib.ListN.{length, getD}
 use Rattle.meaning.specs.Walk.{walk}
 use Rattle.meaning.specs.Message.{partOf}
 use Rattle.trace.specs.Marks.{markFrom}
-use Rattle.trace.proofs.Lists.{zeros-at}
+use Rattle.attributes.proofs.Lists.{zeros-at}
 use Rattle.trace.proofs.Turns.{is-step, is-stop, over}
 use Rattle.trace.proofs.Marking.{mark-end, mark-halt, mark-next}
 use Rattle.trace.proofs.members.marks_of.Statement.{statement}

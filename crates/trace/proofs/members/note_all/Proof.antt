@@ -6,7 +6,7 @@ use borrow.Author.Needs.{needs}
 use lib.ListN.{length, getD, length-set}
 use Rattle.pcf.specs.Rows.{rowOf}
 use Rattle.trace.specs.Marks.{noted}
-use Rattle.trace.proofs.Lists.{Filled, filled-next}
+use Rattle.attributes.proofs.Lists.{Filled, filled-next}
 use Rattle.trace.proofs.members.note_all.Statement.{statement}
 use Rattle.trace.proofs.members.note_all.Tie as tie
 

@@ -6,7 +6,7 @@ use denote.Ref.{now}
 use Rattle.meaning.specs.Answer.{Result, andThen}
 use Rattle.meaning.specs.Trace.{read}
 use Rattle.meaning.specs.Decision.{forwardBy, forwarding}
-use Rattle.trace.specs.Composes.{termsOf}
+use Rattle.attributes.specs.Terms.{termsOf}
 use Rattle.trace.proofs.Entries.{read-is}
 use borrow.Author.Needs.{needs}
 use Rattle.trace.proofs.reading.forward.Statement.{statement}

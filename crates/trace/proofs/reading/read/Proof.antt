@@ -2,7 +2,7 @@
 use mathlib.Core.Path.{ap}
 use denote.Ref.{now}
 use Rattle.meaning.specs.Trace.{readTrace, read}
-use Rattle.trace.specs.Composes.{termsOf}
+use Rattle.attributes.specs.Terms.{termsOf}
 use Rattle.trace.specs.Locations.{Outcome}
 use Rattle.trace.proofs.Entries.{read-traced}
 use borrow.Author.Needs.{needs}

@@ -1,0 +1,130 @@
+/* Measures how much stack each function uses: it runs on a stack of its own that is filled with a pattern, and what is no
+ * longer the pattern was used. The message has groups to depth 8, the deepest that there can be. */
+#include "gwirandol.h"
+
+#include <pthread.h>
+#include <stdio.h>
+#include <stdlib.h>
+#include <string.h>
+
+enum { STACK = 1 << 20, PATTERN = 0xa5, DEPTH = 8 };
+
+static const uint32_t sheet[8] = GW_IBM_SHEET;
+static const uint32_t values[8] = {2, 0, 0, 0, 0, 0x10004, 0x100, 0x1000};
+static uint8_t message[1024], copy[1024], report[1024], text[GW_LISTING_BYTES];
+static size_t length, group_length;
+
+static void put(uint8_t *at, uint32_t kind, uint32_t parameter, uint32_t last)
+{
+    const uint32_t fields[4] = {kind, 16, parameter, last};
+    for (int k = 0; k < 16; k++)
+        at[k] = (uint8_t)(fields[k / 4] >> (24 - k % 4 * 8));
+}
+
+/* A composed trace, and behind it an Activity group with seven groups one in another and an integer in the last. */
+static void compose(void)
+{
+    length = gw_value(gw_compose(sheet, values, message, sizeof message));
+    for (int depth = 1; depth <= DEPTH; depth++, length += 16)
+        put(message + length, 20, depth == 1 ? 8005 : 8006, 1);
+    put(message + length, 3, 1, 1);
+    length += 16;
+    message[35] = 2;
+    group_length = length - 180;
+}
+
+static void nothing(void) {}
+static void check(void) { gw_check(message, sizeof message, length); }
+static void list(void) { gw_list(message, sizeof message, length, text); }
+static void forward(void) { gw_forward(message, sizeof message, length, sheet, true); }
+static void arrive(void) { gw_arrive(message, sizeof message, length, sheet); }
+static void composed(void) { gw_compose(sheet, values, copy, sizeof copy); }
+
+static void tally(void)
+{
+    static uint32_t counts[27];
+    gw_tally(message, sizeof message, length, counts);
+}
+
+static void step(void)
+{
+    static gw_row row;
+    gw_step(message, sizeof message, length, 180, 1, &row);
+}
+
+static void read_values(void)
+{
+    static uint32_t found[8];
+    gw_read(message, sizeof message, length, sheet, found);
+}
+
+static void activity_group(void)
+{
+    static gw_part part;
+    gw_activity_group(message, sizeof message, length, sheet, 0, &part);
+}
+
+static void named_string(void)
+{
+    static gw_part part;
+    gw_named_string(message, sizeof message, length, sheet, 0, 3012, &part);
+}
+
+static void discontinuity(void)
+{
+    static gw_done done;
+    memcpy(copy, message, sizeof copy);
+    gw_discontinuity(copy, sizeof copy, length, sheet, &done);
+}
+
+static void activity(void)
+{
+    static gw_done done;
+    memcpy(copy, message, sizeof copy);
+    gw_activity(copy, sizeof copy, length, sheet, GW_HIGH, message + 180, group_length, true, true, true, report,
+                sizeof report, &done);
+}
+
+static void *call(void *function)
+{
+    (*(void (**)(void))function)();
+    return NULL;
+}
+
+/* The bytes of the stack that a function changed. */
+static size_t used(uint8_t *stack, void (*function)(void))
+{
+    pthread_t thread;
+    pthread_attr_t attributes;
+    memset(stack, PATTERN, STACK);
+    pthread_attr_init(&attributes);
+    if (pthread_attr_setstack(&attributes, stack, STACK) != 0 || pthread_create(&thread, &attributes, call, &function) != 0) {
+        perror("a thread with its own stack");
+        exit(1);
+    }
+    pthread_join(thread, NULL);
+    size_t low = 0;
+    while (low < STACK && stack[low] == PATTERN)
+        low++;
+    return STACK - low;
+}
+
+int main(void)
+{
+    static const struct {
+        const char *name;
+        void (*function)(void);
+    } all[] = {{"check", check}, {"tally", tally}, {"list", list}, {"one structure", step}, {"compose", composed},
+               {"read", read_values}, {"forward", forward}, {"arrive", arrive}, {"Activity group", activity_group},
+               {"name", named_string}, {"discontinuity", discontinuity}, {"activity", activity}};
+    uint8_t *stack = aligned_alloc(1 << 12, STACK);
+    compose();
+    /* what a thread needs by itself, once all that is set up at first use is there */
+    used(stack, nothing);
+    size_t without = used(stack, nothing);
+    printf("| entry | bytes of stack |\n|---|---:|\n");
+    for (size_t k = 0; k < sizeof all / sizeof *all; k++)
+        printf("| %s | %zu |\n", all[k].name, used(stack, all[k].function) - without);
+    free(stack);
+    return 0;
+}

@@ -1,0 +1,239 @@
+-- The first string with an identifier, one direct member after the other, and the name that it is.
+use mathlib.Core.Path.{_≡_, refl, sym, ap, _∙_, subst}
+use mathlib.Core.Bool.{Bool, true, false, _&&_}
+use mathlib.Core.List.{List, [], _∷_, _++_}
+use Prim.Native.Nat.{ℕ, _+_, _-_, _≤_, _<_}
+use native.Mathlib.Omega.{arith}
+use lib.ListN.{length, getD, take, drop, length-take, length-drop, List·getD-eq-default}
+use lib.Seq.{length-take-le, getD-drop}
+use lib.Dec.{ltb, eqb}
+use borrow.Author.Tests.{ltb-true, ltb-false, eqb-true, eq-eqb, ne-eqb}
+use Rattle.meaning.specs.Bytes.{Part, num}
+use Rattle.meaning.specs.Names.{mostBytes, «MQCFT_STRING», «MQGACF_ACTIVITY»}
+use Rattle.meaning.specs.Answer.{Result, accepted, refused, andThen, consIf}
+use Rattle.meaning.specs.Structure.{Row}
+use Rattle.meaning.specs.Walk.{Walked, walked, walk}
+use Rattle.meaning.specs.Message.{partOf, parameterCount}
+use Rattle.meaning.specs.Trace.{Terms, Trace, Top, activities, directIn, named, readTrace}
+use Rattle.meaning.specs.Activity.{Span, bytesIn, noGroup, nthActivity, strings, Name, inMessage, substitute, stringAt, trimmedAt, firstName, isPad, trimmed, nameOf}
+use Rattle.meaning.proofs.Tests.{clash}
+use Rattle.meaning.proofs.Structures.{row-at}
+use Rattle.meaning.proofs.Walks.{walks, walk-of, here, there, in-nil}
+use Rattle.meaning.proofs.Fuel.{walk-zero}
+use Rattle.meaning.proofs.Sound.{Sound, sound}
+use Rattle.meaning.proofs.Strings.{walks-data, trim-pad, trim-other, take-last, trim-le}
+use Rattle.trace.specs.Passing.{passed}
+use Rattle.trace.specs.Groups.{groupOf, counted}
+use Rattle.trace.specs.Locations.{Done, done, Outcome, traced}
+use Rattle.activities.specs.Naming.{firstData, stringIn, isSound}
+use Rattle.trace.specs.declared.groups.Group.{Group}
+use Rattle.trace.proofs.Turns.{Over, walk-halt, walk-over}
+use Rattle.trace.proofs.Marking.{Every, every-named, every-direct, next-direct}
+use Rattle.trace.proofs.Locating.{nth-at}
+
+-- ONE TURN over direct members
+abbrev pub isString : ℕ → Row → Bool
+isString id r = eqb (r .kind) «MQCFT_STRING» && eqb (r .parameter) id
+
+string-more : (m : Part) (id : ℕ) (r : Row) (rs : List Row) (b c : Bool) → eqb (r .kind) «MQCFT_STRING» ≡ b → eqb (r .parameter) id ≡ c → b && c ≡ true
+    → firstData m (named id (strings (r ∷ rs))) ≡ inMessage (stringAt m (r .place))
+unfolding named strings
+string-more m id r rs true true e f g = rw (e, f) refl
+string-more m id r rs true false e f g = absurd (clash (cc))
+string-more m id r rs false c e f g = absurd (clash (cc))
+
+string-other : (m : Part) (id : ℕ) (r : Row) (rs : List Row) (b c : Bool) → eqb (r .kind) «MQCFT_STRING» ≡ b → eqb (r .parameter) id ≡ c → b && c ≡ false
+    → firstData m (named id (strings (r ∷ rs))) ≡ firstData m (named id (strings rs))
+unfolding named strings
+string-other m id r rs true true e f g = absurd (clash (cc))
+string-other m id r rs true false e f g = rw (e, f) refl
+string-other m id r rs false c e f g = rw e refl
+
+pub string-end : (m : Part) (p id : ℕ) → stringIn m id (walk m p 2 0) ≡ substitute
+unfolding directIn strings named
+string-end m p id = rw (walk-zero m p 2) refl
+
+module _ (m : Part) (p left id : ℕ) (due : 0 < left) (whole : isSound (walk m p 2 left) ≡ true) where
+  pub string-halt : (k q : ℕ) → passed m p 2 ≡ refused k q → ⊥
+  string-halt k q e =
+      let f : _≡_ {A = Bool} false true = ap isSound (sym (walk-halt m p 2 left due k q e)) ∙ whole in
+      clash (cc)
+
+  module _ (r : Row) (q : ℕ) (o : Over m p 2 r q) where
+    sound-rest : (w : Result Walked) → isSound (andThen w (λ y. walked (r ∷ (o .inside ++ y .rows)) (y .next))) ≡ true → isSound w ≡ true
+    sound-rest (accepted y) e = refl
+    sound-rest (refused k x) e = e
+
+    pub sound-next : isSound (walk m q 2 (left - 1)) ≡ true
+    sound-next = sound-rest (walk m q 2 (left - 1)) (ap isSound (sym (walk-over m p 2 left due r q o)) ∙ whole)
+
+    pub string-hit : isString id r ≡ true → stringIn m id (walk m p 2 left) ≡ inMessage (stringAt m p)
+    string-hit h = rw (walk-over m p 2 left due r q o) (go (walk m q 2 (left - 1)) sound-next)
+      where
+        go : (w : Result Walked) → isSound w ≡ true → stringIn m id (andThen w (λ y. walked (r ∷ (o .inside ++ y .rows)) (y .next))) ≡ inMessage (stringAt m p)
+        go (accepted y) s =
+            rw (next-direct m p left due r q o y)
+            (string-more m id r (directIn (y .rows)) (eqb (r .kind) «MQCFT_STRING») (eqb (r .parameter) id) refl refl h
+            ∙ ap (λ (x : ℕ). inMessage (stringAt m x)) (sym (row-at m p 2 r (o .there) .at-place)))
+        go (refused k x) s = absurd (clash (cc))
+
+    pub string-miss : isString id r ≡ false → stringIn m id (walk m p 2 left) ≡ stringIn m id (walk m q 2 (left - 1))
+    string-miss h = rw (walk-over m p 2 left due r q o) (go (walk m q 2 (left - 1)))
+      where
+        go : (w : Result Walked) → stringIn m id (andThen w (λ y. walked (r ∷ (o .inside ++ y .rows)) (y .next))) ≡ stringIn m id w
+        go (accepted y) = rw (next-direct m p left due r q o y) (string-other m id r (directIn (y .rows)) (eqb (r .kind) «MQCFT_STRING») (eqb (r .parameter) id) refl refl h)
+        go (refused k x) = refl
+
+-- A STRING that was found: its data lie in the message
+every-string : (P : Row → Type 0) (rows : List Row) → Every P rows → Every (λ r. P r × (r .kind ≡ «MQCFT_STRING»)) (strings rows)
+unfolding strings
+every-string P [] h = λ r i. absurd (in-nil i)
+every-string P (x ∷ xs) h = go (eqb (x .kind) «MQCFT_STRING») refl (every-string P xs (λ r i. h r (there i)))
+  where
+    go : (b : Bool) → eqb (x .kind) «MQCFT_STRING» ≡ b → Every (λ r. P r × (r .kind ≡ «MQCFT_STRING»)) (strings xs) → Every (λ r. P r × (r .kind ≡ «MQCFT_STRING»)) (consIf b x (strings xs))
+    go true e ih r (here f) = (h r (here f), ap (λ (y : Row). y .kind) f ∙ eqb-true (x .kind) «MQCFT_STRING» e)
+    go true e ih r (there i) = ih r i
+    go false e ih r i = ih r i
+
+first-of : (P : Row → Type 0) (m : Part) (rows : List Row) (s : Span) → Every P rows → firstData m rows ≡ inMessage s → (r : Row) × (P r) × (stringAt m (r .place) ≡ s)
+first-of P m [] s h e = absurd (clash (cc))
+first-of P m (r ∷ rs) s h e = (r, h r (here refl), cc)
+
+-- TRAILING BLANKS of the first n bytes from a place on
+module _ (buf : List ℕ) (place n : ℕ) (some : 0 < n) (h : place + n ≤ length buf) where
+  room : n ≤ length (drop place buf)
+  room = omega (arith, length-drop place buf)
+
+  last-byte : take n (drop place buf) ≡ take (n - 1) (drop place buf) ++ (getD buf (place + (n - 1)) 0 ∷ [])
+  last-byte = rw (← getD-drop place buf (n - 1) 0) (take-last (drop place buf) n some room)
+
+  pub kept-stop : (getD buf (place + (n - 1)) 0 ≡ 0x20 → ⊥) → length (trimmed (take n (drop place buf))) ≡ n
+  unfolding isPad
+  kept-stop d =
+      ap (λ (l : List ℕ). length (trimmed l)) last-byte ∙ ap length (trim-other (take (n - 1) (drop place buf)) _ (ne-eqb (getD buf (place + (n - 1)) 0) 0x20 d))
+      ∙ ap length (sym last-byte) ∙ length-take-le n (drop place buf) room
+
+  pub kept-next : getD buf (place + (n - 1)) 0 ≡ 0x20 → trimmed (take n (drop place buf)) ≡ trimmed (take (n - 1) (drop place buf))
+  unfolding isPad
+  kept-next e = ap trimmed last-byte ∙ trim-pad (take (n - 1) (drop place buf)) _ (eq-eqb (getD buf (place + (n - 1)) 0) 0x20 e)
+
+pub kept-none : (buf : List ℕ) (place n : ℕ) → n ≤ 0 → length (trimmed (take n (drop place buf))) ≡ 0
+unfolding trimmed
+kept-none buf place n h = let z : n ≡ 0 = omega arith in rw z refl
+
+length-take-most : (n : ℕ) (l : List ℕ) → length (take n l) ≤ n
+length-take-most n l = rw (length-take n l) (omega arith)
+
+-- THE NAME from the data that were found
+module _ (buf : List ℕ) (len : ℕ) where
+  name-none : (rows : List Row) → firstData (partOf buf len) rows ≡ substitute → firstName buf len rows ≡ substitute
+  name-none [] e = refl
+  name-none (r ∷ rs) e = absurd (clash (cc))
+
+  name-some : (rows : List Row) (s : Span) → firstData (partOf buf len) rows ≡ inMessage s → firstName buf len rows ≡ inMessage (trimmedAt buf s)
+  name-some [] s e = absurd (clash (cc))
+  name-some (r ∷ rs) s e = let f : stringAt (partOf buf len) (r .place) ≡ s = cc in ap (λ (x : Span). inMessage (trimmedAt buf x)) f
+
+  name-data : (rows : List Row) (s : Span) → firstName buf len rows ≡ inMessage s → (d : Span) × (firstData (partOf buf len) rows ≡ inMessage d) × (trimmedAt buf d ≡ s)
+  name-data [] s e = absurd (clash (cc))
+  name-data (r ∷ rs) s e = (stringAt (partOf buf len) (r .place), refl, cc)
+
+-- a trace that was found, and the Activity group with it
+found-trace : (n : ℕ) (r : Result Trace) (o : Outcome) → o ≡ traced n r → o .answer ≡ accepted done
+    → (t : Trace) × (r ≡ accepted t) × (o .activity ≡ counted «MQGACF_ACTIVITY» n (t .rows) .group)
+found-trace n (accepted t) o h f = (t, refl, ap (λ (x : Outcome). x .activity) h)
+found-trace n (refused k p) o h f =
+    let e : _≡_ {A = Result Done} (refused k p) (accepted done) = sym (ap (λ (x : Outcome). x .answer) h) ∙ f in
+    absurd (clash (cc))
+
+lost-trace : (n : ℕ) (r : Result Trace) (o : Outcome) (k p : ℕ) → o ≡ traced n r → o .answer ≡ refused k p → r ≡ refused k p
+lost-trace n (accepted t) o k p h f =
+    let e : _≡_ {A = Result Done} (accepted done) (refused k p) = sym (ap (λ (x : Outcome). x .answer) h) ∙ f in
+    absurd (clash (cc))
+lost-trace n (refused k′ p′) o k p h f =
+    let e : _≡_ {A = Result Done} (refused k′ p′) (refused k p) = sym (ap (λ (x : Outcome). x .answer) h) ∙ f in
+    cc
+
+module _ (tm : Terms) (buf : List ℕ) (len n id : ℕ) (o : Outcome) (h : o ≡ traced n (readTrace tm buf len)) where
+  abbrev m : Part
+  m = partOf buf len
+
+  pub name-lost : (k p : ℕ) → o .answer ≡ refused k p → substitute ≡ nameOf tm buf len n id
+  unfolding nameOf directIn strings named
+  name-lost k p f = rw (lost-trace n (readTrace tm buf len) o k p h f) refl
+
+  module _ (f : o .answer ≡ accepted done) where
+    trace : (t : Trace) × (readTrace tm buf len ≡ accepted t) × (o .activity ≡ counted «MQGACF_ACTIVITY» n (t .rows) .group)
+    trace = found-trace n (readTrace tm buf len) o h f
+
+    facts : Sound tm buf len (trace .0)
+    facts = sound tm buf len (trace .0) (trace .1)
+
+    pub message-in : (len ≤ length buf) × (len ≤ mostBytes)
+    message-in = (facts .lies .there, facts .lies .most)
+
+    abbrev top : Top
+    top = getD (activities (trace .0 .rows)) n noGroup
+
+    abbrev strings-in : List Row
+    strings-in = named id (strings (directIn (top .inside)))
+
+    -- the walk inside the group goes over the rows that the meaning has inside it
+    inside : (q : ℕ) × (walk m (o .activity .inside) 2 (o .activity .members) ≡ walked (top .inside) q)
+    unfolding counted groupOf
+    inside =
+        subst (λ (g : Group). (q : ℕ) × (walk m (g .inside) 2 (g .members) ≡ walked (top .inside) q)) (sym (trace .2))
+        (go (ltb n (length (activities (trace .0 .rows)))) refl)
+      where
+        go : (b : Bool) → ltb n (length (activities (trace .0 .rows))) ≡ b
+            → (q : ℕ) × (walk m (top .row .place + top .row .size) 2 (top .row .members) ≡ walked (top .inside) q)
+        go true e =
+            let g = nth-at m 36 (parameterCount m) (trace .0 .rows) (facts .message .structures .tree) «MQGACF_ACTIVITY» n (ltb-true n (length (activities (trace .0 .rows))) e) in
+            (g .next, walk-of (g .within) (g .ends))
+        go false e = rw (List·getD-eq-default (activities (trace .0 .rows)) noGroup (ltb-false n (length (activities (trace .0 .rows))) e)) (0, walk-zero m 0 2)
+
+    pub group-whole : isSound (walk m (o .activity .inside) 2 (o .activity .members)) ≡ true
+    group-whole = ap isSound (inside .1)
+
+    is-name : nameOf tm buf len n id ≡ firstName buf len strings-in
+    unfolding nameOf
+    is-name = ap (λ (r : Result Trace). firstName buf len (named id (strings (directIn (nthActivity r n .inside))))) (trace .1)
+
+    found-data : (x : Name) → stringIn m id (walk m (o .activity .inside) 2 (o .activity .members)) ≡ x → firstData m strings-in ≡ x
+    found-data x e = sym (ap (stringIn m id) (inside .1)) ∙ e
+
+    data-end : (s : Span) → firstData m strings-in ≡ inMessage s → s .place + s .length ≤ length buf
+    data-end s e =
+        let w = walks m (o .activity .inside) 2 (o .activity .members) (top .inside) (inside .0) (inside .1) in
+        let P : Row → Type 0 = λ r. (r .kind ≡ «MQCFT_STRING» → r .place + 20 + num m (r .place + 16) ≤ len) in
+        let all = every-named (λ r. P r × (r .kind ≡ «MQCFT_STRING»)) id (strings (directIn (top .inside))) (every-string P (directIn (top .inside)) (every-direct P (top .inside) (λ r i. walks-data w r i))) in
+        let g = first-of (λ r. P r × (r .kind ≡ «MQCFT_STRING»)) m strings-in s all e in
+        omega (arith, g .1 .0 (g .1 .1), ap (λ (x : Span). x .place) (g .2), ap (λ (x : Span). x .length) (g .2), message-in .0)
+
+    pub name-missing : stringIn m id (walk m (o .activity .inside) 2 (o .activity .members)) ≡ substitute → substitute ≡ nameOf tm buf len n id
+    name-missing e = sym (is-name ∙ name-none buf len strings-in (found-data substitute e))
+
+    module _ (s : Span) (e : stringIn m id (walk m (o .activity .inside) 2 (o .activity .members)) ≡ inMessage s) where
+      pub string-fits : s .place + s .length ≤ length buf
+      string-fits = data-end s (found-data (inMessage s) e)
+
+      pub name-found : inMessage (trimmedAt buf s) ≡ nameOf tm buf len n id
+      name-found = sym (is-name ∙ name-some buf len strings-in s (found-data (inMessage s) e))
+
+    -- a name lies in the message
+    name-ends : (s : Span) → nameOf tm buf len n id ≡ inMessage s → s .place + s .length ≤ length buf
+    name-ends s e =
+        let g = name-data buf len strings-in s (sym is-name ∙ e) in
+        omega (arith, data-end (g .0) (g .1), ap (λ (x : Span). x .place) (g .2), ap (λ (x : Span). x .length) (g .2), trim-le (bytesIn buf (g .0)), bytes-le (g .0))
+      where
+        bytes-le : (d : Span) → length (bytesIn buf d) ≤ d .length
+        bytes-le d = length-take-most (d .length) (drop (d .place) buf)
+
+pub name-in : (tm : Terms) (buf : List ℕ) (len n id : ℕ) (s : Span) → nameOf tm buf len n id ≡ inMessage s → s .place + s .length ≤ length buf
+name-in tm buf len n id s e = go (traced n (readTrace tm buf len) .answer) refl
+  where
+    go : (a : Result Done) → traced n (readTrace tm buf len) .answer ≡ a → s .place + s .length ≤ length buf
+    go (accepted done) f = name-ends tm buf len n id (traced n (readTrace tm buf len)) refl f s e
+    go (refused k p) f =
+        let z : substitute ≡ inMessage s = name-lost tm buf len n id (traced n (readTrace tm buf len)) refl k p f ∙ e in
+        absurd (clash (cc))

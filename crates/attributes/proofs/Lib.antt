@@ -1,0 +1,3 @@
+pub mod Lists
+mod Tests
+mod Sheets

@@ -1,0 +1,61 @@
+// What an event did, in numbers, and the level of an activity by its number.
+use crate::code::given;
+use answers::Refusal;
+use verdict::Answer;
+use verdict::Level;
+use verdict::index_of;
+ghost use mathlib.Core.Path.{_≡_};
+ghost use mathlib.Core.Bool.{cond};
+ghost use Prim.Native.Nat.{_+_, _*_, _≤_};
+ghost use Rattle.answers.specs.Refusals.{numberOf, placeOf, owed};
+ghost use Rattle.verdict.specs.Plans.{levelOf, answerOf};
+ghost use Rattle.codes.specs.Events.{levelIn, Brief, Tells};
+
+fn flag(b: bool) -> u64
+    ensures { λ r. ⌜ r ≡ cond b 1 0 ⌝ }
+{
+    if b { 1 } else { 0 }
+}
+
+// A refusal; 10, which has no place, has 1 there if a reply is owed.
+fn denied(r: Refusal) -> u64
+    requires { ⌜ placeOf r ≤ 65536 ⌝ }
+    ensures { λ n. ⌜ n ≡ (placeOf r + cond (owed r) 1 0) * 32 + numberOf r ⌝ }
+{
+    (answers::place(r) as u64 + flag(answers::reply_owed(r))) * 32 + answers::number(r) as u64
+}
+
+// What an event did, or the refusal.
+pub fn told(found: Answer, done: &mut [u64; 4]) -> u64
+    requires { ⌜ Brief (answerOf found) ⌝ }
+    ensures { λ r. ⌜ Tells (answerOf found) (now (done .entry)) r (now (done .exit)) ⌝ }
+{
+    match found {
+        Answer::Refused(r) => denied(r),
+        Answer::Done(d) => {
+            let counter = d.counter;
+            let message = d.message;
+            *done = [
+                index_of(counter) as u64,
+                flag(d.appended),
+                d.report as u64,
+                message as u64,
+            ];
+            given(message)
+        }
+    }
+}
+
+// A level by its number in the header; what is neither low nor medium is high.
+pub fn level_of(level: u32) -> Level
+    ensures { λ r. ⌜ levelOf r ≡ levelIn level ⌝ }
+{
+    if level == 1 {
+        return Level::Low;
+    }
+    if level == 2 {
+        Level::Medium
+    } else {
+        Level::High
+    }
+}

@@ -1,0 +1,16 @@
+-- What Compose answers and leaves, in the meaning's terms.
+use Prim.Native.Nat.{ℕ}
+use mathlib.Core.List.{List}
+use Rattle.meaning.specs.Answer.{Result, accepted}
+use Rattle.meaning.specs.Compose.{Composed as Meant}
+use Rattle.answers.specs.Refusals.{refusal}
+use Rattle.compose.specs.declared.composition.Composed.{Composed}
+use Rattle.compose.specs.declared.composition.Composed.the-variants.{Written, Refused}
+
+abbrev pub composedOf : Composed → Result ℕ
+composedOf (Written n) = accepted n
+composedOf (Refused r) = refusal r
+
+-- the answer, and the buffer after it
+abbrev pub outcome : Composed → List ℕ → Meant
+outcome r buf = record { answer = composedOf r; buffer = buf }

@@ -1,0 +1,23 @@
+-- The table of header fields, in the meaning's terms.
+use Prim.Native.Nat.{ℕ, _+_}
+use mathlib.Core.Bool.{Bool, true, _&&_}
+use mathlib.Core.List.{List, [], _∷_}
+use lib.Dec.{eqb}
+use Rattle.meaning.specs.Bytes.{number}
+use Rattle.meaning.specs.Compose.{traceHeaderFields, reportHeaderFields}
+use Rattle.compose.specs.declared.header.Kind.{Kind}
+use Rattle.compose.specs.declared.header.Kind.the-variants.{Trace, Report}
+
+-- where the fields of a header start in the table
+abbrev pub rowOf : Kind → ℕ
+rowOf Trace = 0
+rowOf Report = 9
+
+abbrev pub fieldsOf : Kind → List ℕ
+fieldsOf Trace = traceHeaderFields
+fieldsOf Report = reportHeaderFields
+
+-- the bytes from p on are these numbers
+unfoldable pub startsWith : List ℕ → ℕ → List ℕ → Bool
+startsWith s p [] = true
+startsWith s p (f ∷ fs) = eqb (number s p) f && startsWith s (p + 4) fs

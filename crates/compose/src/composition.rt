@@ -1,0 +1,71 @@
+// Compose: a trace-route message from a sheet and eight values.
+use crate::header::Kind;
+use crate::header::put_header;
+use answers::Refusal;
+use attributes::in_range;
+use attributes::sheet_ok;
+use pcf::MQCFT_GROUP;
+use pcf::MQCFT_INTEGER;
+use wire::put_number;
+ghost use mathlib.Core.Path.{_≡_};
+ghost use mathlib.Core.List.{_∷_, []};
+ghost use Prim.Native.Nat.{_+_, _≤_};
+ghost use lib.ListN.{length};
+ghost use Rattle.meaning.specs.Bytes.{words, splice};
+ghost use Rattle.meaning.specs.Compose.{composed as composedOf, compose as composeOf};
+ghost use Rattle.compose.specs.Composes.{outcome};
+ghost use Rattle.attributes.specs.Terms.{termsOf};
+
+// The identifier of the TraceRoute group.
+pub const MQGACF_TRACE_ROUTE: u32 = 8003;
+
+// The length of a composed message.
+const COMPOSED: usize = 180;
+
+// The length written, or 17, 8 or 12.
+pub enum Composed {
+    Written(usize),
+    Refused(Refusal),
+}
+
+// Writes four numbers from `at` on: a group's header, or an integer.
+fn put_four(buf: &mut [u8], at: usize, kind: u32, size: u32, parameter: u32, last: u32)
+    requires { ⌜ at + 16 ≤ length (now buf) ⌝ }
+    ensures { λ _. ⌜ now (buf .exit) ≡ splice (now (buf .entry)) at (words (kind ∷ size ∷ parameter ∷ last ∷ [])) ⌝ }
+{
+    put_number(buf, at, kind);
+    put_number(buf, at + 4, size);
+    put_number(buf, at + 8, parameter);
+    put_number(buf, at + 12, last);
+}
+
+// Header, TraceRoute group, and the eight integers in document 01's order.
+fn put_trace(buf: &mut [u8], sheet: [u32; 8], values: [u32; 8])
+    requires { ⌜ 180 ≤ length (now buf) ⌝ }
+    ensures { λ _. ⌜ now (buf .exit) ≡ splice (now (buf .entry)) 0 (composedOf sheet values) ⌝ }
+{
+    put_header(buf, Kind::Trace);
+    put_four(buf, 36, MQCFT_GROUP, 16, MQGACF_TRACE_ROUTE, 8);
+    let mut k = 0;
+    while k < 8 {
+        put_four(buf, 52 + k * 16, MQCFT_INTEGER, 16, sheet[k], values[k]);
+        k += 1;
+    }
+}
+
+// COMPOSE: writes the message to the start of the buffer. A refusal changes nothing.
+pub fn compose(sheet: [u32; 8], values: [u32; 8], buf: &mut [u8]) -> Composed
+    ensures { λ r. ⌜ outcome r (now (buf .exit)) ≡ composeOf (termsOf sheet) values (now (buf .entry)) ⌝ }
+{
+    if !sheet_ok(sheet) {
+        return Composed::Refused(Refusal::BadSheet);
+    }
+    if !in_range(values) {
+        return Composed::Refused(Refusal::BadAttribute);
+    }
+    if buf.len() < COMPOSED {
+        return Composed::Refused(Refusal::NoRoom);
+    }
+    put_trace(buf, sheet, values);
+    Composed::Written(COMPOSED)
+}

@@ -1,0 +1,109 @@
+// What is due for an event: the counter that is to rise, and whether the group is to be appended and reported.
+ghost use mathlib.Core.Path.{_≡_};
+ghost use mathlib.Core.Bool.{not, _&&_, _||_};
+ghost use Rattle.meaning.specs.Event.{rank, unrecordedForLevel, recordedIn};
+ghost use Rattle.verdict.specs.Plans.{levelOf, counterOf, PlansDiscontinuity, PlansActivity, Index};
+
+// The level of an activity.
+pub enum Level {
+    Low,
+    Medium,
+    High,
+}
+
+// What the queue manager does: activity recording, trace-route messaging.
+pub struct Settings {
+    pub recording: bool,
+    pub messaging: bool,
+}
+
+// The counters of a trace.
+pub enum Counter {
+    Recorded,
+    Unrecorded,
+    Discontinuities,
+}
+
+pub struct Plan {
+    pub counter: Counter,
+    pub appends: bool,
+    pub reports: bool,
+}
+
+const MQROUTE_ACCUMULATE_NONE: u32 = 0x10003;
+
+// A level as a value of Detail.
+fn rank_of(level: Level) -> u32
+    ensures { λ r. ⌜ r ≡ rank (levelOf level) ⌝ }
+{
+    match level {
+        Level::Low => 2,
+        Level::Medium => 8,
+        Level::High => 32,
+    }
+}
+
+// Where a counter stands among the eight attributes.
+pub fn index_of(counter: Counter) -> usize
+    ensures { λ r. ⌜ Index (counterOf counter) r ⌝ }
+{
+    match counter {
+        Counter::Recorded => 1,
+        Counter::Unrecorded => 2,
+        Counter::Discontinuities => 3,
+    }
+}
+
+// An activity is left unrecorded for its level, however it is lent.
+fn unrecorded_for_level(level: Level, detail: u32) -> bool
+    ensures { λ r. ⌜ r ≡ unrecordedForLevel (levelOf level) detail ⌝ }
+{
+    rank_of(level) < detail
+}
+
+// An activity that is not skipped is reported, or accumulated, if that is wanted and the queue manager does it.
+fn is_due(skipped: bool, wanted: bool, does: bool) -> bool
+    ensures { λ r. ⌜ r ≡ (not skipped && (wanted && does)) ⌝ }
+{
+    !skipped && (wanted && does)
+}
+
+// An activity is recorded if it is reported or accumulated.
+fn counter_of(reports: bool, appends: bool) -> Counter
+    ensures { λ r. ⌜ counterOf r ≡ recordedIn (reports || appends) ⌝ }
+{
+    if reports {
+        return Counter::Recorded;
+    }
+    if appends {
+        Counter::Recorded
+    } else {
+        Counter::Unrecorded
+    }
+}
+
+// What is due for a discontinuity: it is counted.
+pub fn plan_discontinuity() -> Plan
+    ensures { λ r. ⌜ PlansDiscontinuity r ⌝ }
+{
+    Plan {
+        counter: Counter::Discontinuities,
+        appends: false,
+        reports: false,
+    }
+}
+
+// What is due for an activity, by the values of the trace. The group itself plays no part.
+pub fn plan_activity(values: [u32; 8], level: Level, asked: bool, settings: Settings) -> Plan
+    ensures { λ r. ⌜ PlansActivity r values level asked settings ⌝ }
+{
+    let skipped = unrecorded_for_level(level, values[0]);
+    let reports = is_due(skipped, asked, settings.recording);
+    let accumulate = values[5] != MQROUTE_ACCUMULATE_NONE;
+    let appends = is_due(skipped, accumulate, settings.messaging);
+    Plan {
+        counter: counter_of(reports, appends),
+        appends,
+        reports,
+    }
+}
