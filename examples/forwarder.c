@@ -4,7 +4,8 @@
  *     forwarder new MESSAGE LIMIT       composes a trace-route message with this limit of activities
  *     forwarder on MESSAGE REPORT       enters its own activity, writes the report, and says whether the message goes on
  *     forwarder arrive MESSAGE          says what happens to the message at its end */
-#include "../programs/refusals.h"
+
+#include "gwirandol.h"
 
 #include <stdio.h>
 #include <stdlib.h>
@@ -48,7 +49,7 @@ static void save(const char *name, const uint8_t *bytes, size_t length)
 
 static int refuse(const char *what, gw_answer answer)
 {
-    printf("%s refused with %u: %s\n", what, (unsigned)gw_number(answer), refusal_in_words(gw_number(answer)));
+    printf("%s refused with %u: %s\n", what, (unsigned)gw_number(answer), gw_in_words(gw_number(answer)));
     return 1;
 }
 

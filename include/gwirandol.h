@@ -67,6 +67,31 @@ enum gw_feedbacks {
     GW_MQFB_NOT_FORWARDED = GW_NOT_FORWARDED
 };
 
+/* A refusal in words, for people. */
+static inline const char *gw_in_words(uint32_t number)
+{
+    switch (number) {
+    case GW_BAD_LENGTH: return "fewer than 36 bytes, or more than 65,536";
+    case GW_BAD_HEADER: return "the header is not sound";
+    case GW_BAD_STRUCTURE: return "a structure is not sound: its type, length or count, or it goes past the end";
+    case GW_TOO_DEEP: return "a group is deeper than 8";
+    case GW_LEFT_OVER: return "bytes are left over behind the last structure";
+    case GW_NO_TRACE_HEADER: return "the header is not that of a trace-route message";
+    case GW_NO_TRACE_ROUTE: return "there is no TraceRoute group, or more than one";
+    case GW_BAD_ATTRIBUTE: return "an attribute is missing, there twice, no integer or out of range";
+    case GW_BAD_GROUP: return "the Activity group is not sound";
+    case GW_MAX_ACTIVITIES: return "the limit of activities is reached (MQFB_MAX_ACTIVITIES)";
+    case GW_COUNTER_FULL: return "the counter can't be raised any more";
+    case GW_NO_ROOM: return "there is no room for the group";
+    case GW_REPORT_TOO_SHORT: return "there is no room for the report";
+    case GW_UNSUPPORTED_DELIVERY: return "a delivery option is not supported (MQFB_UNSUPPORTED_DELIVERY)";
+    case GW_UNSUPPORTED_FORWARDING: return "a forwarding option is not supported (MQFB_UNSUPPORTED_FORWARDING)";
+    case GW_NOT_FORWARDED: return "it may not go to this queue manager (MQFB_NOT_FORWARDED)";
+    case GW_BAD_SHEET: return "the sheet of identifiers is not sound";
+    default: return "no refusal of this number is known";
+    }
+}
+
 /* IBM's name of the feedback that goes with a refusal, or a null pointer: only 10 and 14 to 16 have one. */
 static inline const char *gw_feedback(uint32_t number)
 {
@@ -108,7 +133,7 @@ gw_answer gw_compose(const uint32_t sheet[8], const uint32_t values[8], uint8_t 
  *     if (gw_number(checked) == GW_ACCEPTED)
  *         printf("%u structures\n", (unsigned)gw_value(checked));
  *     else
- *         printf("refused with %u at byte %u\n", (unsigned)gw_number(checked), (unsigned)gw_value(checked)); */
+ *         printf("refused at byte %u: %s\n", (unsigned)gw_value(checked), gw_in_words(gw_number(checked))); */
 gw_answer gw_check(const uint8_t *buffer, size_t size, size_t length);
 
 /* TALLY: answers as gw_check does, and counts[k] is the number of structures of type k, nested ones included. All counts

@@ -1,6 +1,7 @@
 /* Shows a trace-route message to people: a message on standard input, words on standard output. The attributes are looked
  * for under IBM's identifiers. A refusal is said with its number, its meaning and its place, and the exit status is 1. */
-#include "refusals.h"
+
+#include "gwirandol.h"
 
 #include <stdio.h>
 
@@ -146,7 +147,7 @@ int main(void)
     gw_answer answer = gw_read(message, sizeof message, length, sheet, values);
     if (gw_number(answer) != 0) {
         printf("refused with %u at byte %llu: %s\n", (unsigned)gw_number(answer), (unsigned long long)gw_value(answer),
-               refusal_in_words(gw_number(answer)));
+               gw_in_words(gw_number(answer)));
         return 1;
     }
     printf("A trace-route message of %zu bytes\n\n", length);

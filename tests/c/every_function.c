@@ -71,6 +71,14 @@ static void events(void)
     expect(gw_discontinuity(message, sizeof message, length, sheet, &done) == 32 + GW_MAX_ACTIVITIES, "the limit is reached, and a reply is owed");
 }
 
+static void words(void)
+{
+    expect(strcmp(gw_feedback(GW_MAX_ACTIVITIES), "MQFB_MAX_ACTIVITIES") == 0, "the limit's feedback");
+    expect(gw_feedback(GW_NO_ROOM) == NULL, "no room is no feedback");
+    for (uint32_t number = GW_BAD_LENGTH; number <= GW_BAD_SHEET; number++)
+        expect(strcmp(gw_in_words(number), gw_in_words(99)) != 0, "every refusal has words");
+}
+
 int main(void)
 {
     expect(gw_number(gw_compose(sheet, values, message, 179)) == GW_NO_ROOM, "179 bytes are too few");
@@ -78,6 +86,7 @@ int main(void)
     structures();
     traces();
     events();
+    words();
     if (failures == 0) {
         printf("every function does what it should\n");
     }
