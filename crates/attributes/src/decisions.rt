@@ -1,17 +1,14 @@
 // Forwarding and arrival, judged by the eight values of a trace.
+use crate::names::DELIVER;
+use crate::names::FORWARD;
+use crate::names::MQROUTE_DELIVER_YES;
+use crate::names::MQROUTE_FORWARD_IF_SUPPORTED;
+use crate::names::REJECT_UNSUPPORTED;
 use crate::ranges::any_bit;
 use answers::Refusal;
 ghost use mathlib.Core.Path.{_≡_};
 ghost use Rattle.meaning.specs.Decision.{forwardBy, arriveBy};
 ghost use Rattle.attributes.specs.Decisions.{judgedOf};
-
-// Any bit of Forward or Deliver under this mask is an unrecognised option.
-const REJECT_UNSUPPORTED: u32 = 0xFFFF0000;
-
-// Of a value in range exactly one of two bits is set, so that one bit tells.
-const MQROUTE_FORWARD_IF_SUPPORTED: u32 = 0x200;
-
-const MQROUTE_DELIVER_YES: u32 = 0x1000;
 
 // What is done with the message.
 pub enum Decision {
@@ -31,14 +28,14 @@ pub enum Judged {
 pub fn forward_by(v: [u32; 8], supporting: bool) -> Judged
     ensures { λ r. ⌜ judgedOf r ≡ forwardBy v supporting ⌝ }
 {
-    if !supporting & any_bit(v[7], REJECT_UNSUPPORTED) {
+    if !supporting & any_bit(v[DELIVER], REJECT_UNSUPPORTED) {
         return Judged::Refused(Refusal::UnsupportedDelivery);
     }
-    let open = supporting | !any_bit(v[7], MQROUTE_DELIVER_YES);
-    if open & any_bit(v[6], REJECT_UNSUPPORTED) {
+    let open = supporting | !any_bit(v[DELIVER], MQROUTE_DELIVER_YES);
+    if open & any_bit(v[FORWARD], REJECT_UNSUPPORTED) {
         return Judged::Refused(Refusal::UnsupportedForwarding);
     }
-    if (open & !supporting) & any_bit(v[6], MQROUTE_FORWARD_IF_SUPPORTED) {
+    if (open & !supporting) & any_bit(v[FORWARD], MQROUTE_FORWARD_IF_SUPPORTED) {
         return Judged::Refused(Refusal::NotForwarded);
     }
     Judged::Decided(Decision::Forward)
@@ -48,10 +45,10 @@ pub fn forward_by(v: [u32; 8], supporting: bool) -> Judged
 pub fn arrive_by(v: [u32; 8]) -> Judged
     ensures { λ r. ⌜ judgedOf r ≡ arriveBy v ⌝ }
 {
-    if any_bit(v[7], REJECT_UNSUPPORTED) {
+    if any_bit(v[DELIVER], REJECT_UNSUPPORTED) {
         return Judged::Refused(Refusal::UnsupportedDelivery);
     }
-    if any_bit(v[7], MQROUTE_DELIVER_YES) {
+    if any_bit(v[DELIVER], MQROUTE_DELIVER_YES) {
         Judged::Decided(Decision::PutLocally)
     } else {
         Judged::Decided(Decision::Withhold)

@@ -1,4 +1,22 @@
 // The ranges of the eight attributes. Masks test the bits of Forward and Deliver in a 32-bit value.
+use crate::names::ACCUMULATE;
+use crate::names::DELIVER;
+use crate::names::DETAIL;
+use crate::names::DISCONTINUITY_COUNT;
+use crate::names::FORWARD;
+use crate::names::MAX_ACTIVITIES;
+use crate::names::MQROUTE_ACCUMULATE_AND_REPLY;
+use crate::names::MQROUTE_ACCUMULATE_IN_MSG;
+use crate::names::MQROUTE_ACCUMULATE_NONE;
+use crate::names::MQROUTE_DELIVER_NO;
+use crate::names::MQROUTE_DELIVER_YES;
+use crate::names::MQROUTE_DETAIL_HIGH;
+use crate::names::MQROUTE_DETAIL_LOW;
+use crate::names::MQROUTE_DETAIL_MEDIUM;
+use crate::names::MQROUTE_FORWARD_ALL;
+use crate::names::MQROUTE_FORWARD_IF_SUPPORTED;
+use crate::names::RECORDED_ACTIVITIES;
+use crate::names::UNRECORDED_ACTIVITIES;
 use structure::TWO_TO_31;
 ghost use mathlib.Core.Path.{_≡_};
 ghost use mathlib.Core.Bool.{_||_};
@@ -37,8 +55,26 @@ fn is_small(x: u32) -> bool
 pub fn in_range(v: [u32; 8]) -> bool
     ensures { λ r. ⌜ r ≡ inRange v ⌝ }
 {
-    let counters = is_small(v[1]) & (is_small(v[2]) & (is_small(v[3]) & is_small(v[4])));
-    let options = one_bit(v[6], 0x100, 0x200) & one_bit(v[7], 0x1000, 0x2000);
-    one_of_three(v[0], 2, 8, 32)
-        & (counters & (one_of_three(v[5], 0x10003, 0x10004, 0x10005) & options))
+    let detail = one_of_three(
+        v[DETAIL],
+        MQROUTE_DETAIL_LOW,
+        MQROUTE_DETAIL_MEDIUM,
+        MQROUTE_DETAIL_HIGH,
+    );
+    let counters = is_small(v[RECORDED_ACTIVITIES])
+        & (is_small(v[UNRECORDED_ACTIVITIES])
+            & (is_small(v[DISCONTINUITY_COUNT]) & is_small(v[MAX_ACTIVITIES])));
+    let accumulate = one_of_three(
+        v[ACCUMULATE],
+        MQROUTE_ACCUMULATE_NONE,
+        MQROUTE_ACCUMULATE_IN_MSG,
+        MQROUTE_ACCUMULATE_AND_REPLY,
+    );
+    let forward = one_bit(
+        v[FORWARD],
+        MQROUTE_FORWARD_ALL,
+        MQROUTE_FORWARD_IF_SUPPORTED,
+    );
+    let deliver = one_bit(v[DELIVER], MQROUTE_DELIVER_YES, MQROUTE_DELIVER_NO);
+    detail & (counters & (accumulate & (forward & deliver)))
 }

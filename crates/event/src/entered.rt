@@ -1,6 +1,7 @@
 // An event on a trace that was read: decided, and then written.
 use crate::written::write_message;
 use crate::written::write_report_if;
+use attributes::DISCONTINUITY_COUNT;
 use verdict::Answer;
 use verdict::Plan;
 use verdict::decide;
@@ -52,7 +53,11 @@ pub fn count(buf: &mut [u8], len: usize, places: [usize; 8], values: [u32; 8]) -
     match answer {
         Answer::Refused(r) => Answer::Refused(r),
         Answer::Done(done) => {
-            put_number(buf, places[3] + VALUE, values[3] + 1);
+            put_number(
+                buf,
+                places[DISCONTINUITY_COUNT] + VALUE,
+                values[DISCONTINUITY_COUNT] + 1,
+            );
             Answer::Done(done)
         }
     }

@@ -1,6 +1,8 @@
 // The lent Activity group.
 use pcf::Passed;
 use pcf::over;
+use structure::MQCFT_GROUP;
+use trace::MQGACF_ACTIVITY;
 use wire::number_at;
 ghost use mathlib.Core.Path.{_≡_};
 ghost use Rattle.meaning.specs.Event.{groupOk};
@@ -9,10 +11,6 @@ ghost use Rattle.meaning.specs.Event.{groupOk};
 const LEAST: usize = 16;
 
 const MOST: usize = 65500;
-
-const MQCFT_GROUP: u32 = 20;
-
-const MQGACF_ACTIVITY: u32 = 8005;
 
 // The lent bytes are one whole Activity group, sound as if top-level, with nothing after it.
 pub fn group_ok(group: &[u8]) -> bool

@@ -1,6 +1,7 @@
 // What an accepted event writes: the counter's new value, and behind the message the group.
 use compose::Kind;
 use compose::put_header;
+use pcf::HEADER;
 use wire::copy_to;
 use wire::number_at;
 use wire::put_number;
@@ -11,9 +12,6 @@ ghost use Rattle.meaning.specs.Message.{partOf};
 ghost use Rattle.meaning.specs.Event.{grownIf, reportOf, reportedIf};
 ghost use Prim.Native.Nat.{_+_, _≤_};
 ghost use Rattle.event.specs.Written.{Writable, Reportable};
-
-// The bytes of a header.
-const HEADER: usize = 36;
 
 // The place of the header's ParameterCount.
 const COUNT: usize = 32;

@@ -1,4 +1,5 @@
 // The lines of all structures of a message that was checked.
+use structure::MQCFT_GROUP;
 use text::Line;
 use text::put_line;
 use wire::number_at;
@@ -7,9 +8,6 @@ ghost use Prim.Native.Nat.{_+_, _≤_};
 ghost use lib.ListN.{length};
 ghost use Rattle.meaning.specs.Walk.{walk};
 ghost use Rattle.listing.specs.Rows.{whole, lineAt, Due, Done};
-
-// The type of a group.
-const MQCFT_GROUP: u32 = 20;
 
 // The place behind the text that was written, and the place behind the structures that it shows.
 pub struct Behind {

@@ -5,6 +5,8 @@ mod walk;
 
 pub use message::Checked;
 pub use message::Cursor;
+pub use message::HEADER;
+pub use message::MOST_BYTES;
 pub use message::Stepped;
 pub use message::Tallied;
 pub use message::check;

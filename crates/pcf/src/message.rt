@@ -21,10 +21,10 @@ ghost use Rattle.answers.specs.Refusals.{refusal};
 ghost use Rattle.pcf.specs.Messages.{checkedOf, opened, openedOf, steppedOf, Tallies, TalliedAs};
 
 // The most bytes of a message.
-const MOST_BYTES: usize = 65536;
+pub const MOST_BYTES: usize = 65536;
 
 // The header's bytes: no message has fewer, and the first structure is behind them.
-const HEADER: usize = 36;
+pub const HEADER: usize = 36;
 
 // What a check finds: the number of structures, nested ones included, or 1 to 5.
 pub enum Checked {

@@ -5,6 +5,8 @@
 // and thin, and what has to be decided is left to functions over plain slices and numbers.
 use answers::Refusal;
 use pcf::Cursor;
+use pcf::HEADER;
+use pcf::MOST_BYTES;
 use pcf::Passed;
 use pcf::Stepped;
 use pcf::over;
@@ -12,11 +14,6 @@ use pcf::step;
 ghost use mathlib.Core.Path.{_≡_};
 ghost use Rattle.pcf.specs.Messages.{steppedOf};
 ghost use Rattle.reader.specs.Reading.{start, standing, nthTop};
-
-// The fewest bytes of a message, those of its header, and the most.
-const HEADER: usize = 36;
-
-const MOST_BYTES: usize = 65536;
 
 // The whole slice is the message. It is held, not copied.
 pub struct Reader<'a> {

@@ -16,7 +16,7 @@ ghost use Rattle.structure.specs.Rows.{rowOf};
 ghost use Rattle.trace.specs.Groups.{noGroupYet, noneYet, countRow, Countable, surveyOf, surveyed};
 
 // The identifier of an Activity group.
-const MQGACF_ACTIVITY: u32 = 8005;
+pub const MQGACF_ACTIVITY: u32 = 8005;
 
 // A group: its place, the place of what is inside it, its length with all of that, and how many direct members it has.
 pub struct Group {

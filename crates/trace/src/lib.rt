@@ -6,6 +6,7 @@ mod passing;
 mod reading;
 
 pub use groups::Group;
+pub use groups::MQGACF_ACTIVITY;
 pub use location::Answer;
 pub use location::Located;
 pub use location::Traced;

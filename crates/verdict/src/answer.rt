@@ -3,6 +3,14 @@ use crate::plan::Counter;
 use crate::plan::Plan;
 use crate::plan::index_of;
 use answers::Refusal;
+use attributes::ACCUMULATE;
+use attributes::DISCONTINUITY_COUNT;
+use attributes::MAX_ACTIVITIES;
+use attributes::MQROUTE_ACCUMULATE_AND_REPLY;
+use attributes::RECORDED_ACTIVITIES;
+use attributes::UNRECORDED_ACTIVITIES;
+use pcf::HEADER;
+use pcf::MOST_BYTES;
 ghost use mathlib.Core.Path.{_≡_};
 ghost use mathlib.Core.Bool.{not, _&&_, cond};
 ghost use Prim.Native.Nat.{_+_, _≤_, _<_};
@@ -11,13 +19,7 @@ ghost use Rattle.meaning.specs.Names.{mostBytes};
 ghost use Rattle.meaning.specs.Event.{sum, overLimit, replyOwed, reportLength, doneBy, decide as decideOn};
 ghost use Rattle.verdict.specs.Plans.{planned, doneOf, answerOf};
 
-const MOST_BYTES: usize = 65536;
-
 const MOST_COUNT: u32 = 2147483647;
-
-const HEADER: usize = 36;
-
-const MQROUTE_ACCUMULATE_AND_REPLY: u32 = 0x10005;
 
 // What an accepted event did: the counter that rose, whether the group was appended, the report's length or 0, and the
 // message's length now.
@@ -44,14 +46,16 @@ fn wide(x: u32) -> u64
 fn total(values: [u32; 8]) -> u64
     ensures { λ r. ⌜ (r ≡ sum values) × (r < 12884901888) ⌝ }
 {
-    wide(values[1]) + wide(values[2]) + wide(values[3])
+    wide(values[RECORDED_ACTIVITIES])
+        + wide(values[UNRECORDED_ACTIVITIES])
+        + wide(values[DISCONTINUITY_COUNT])
 }
 
 // A limit is set, and one more activity is above it.
 fn over_limit(values: [u32; 8]) -> bool
     ensures { λ r. ⌜ r ≡ overLimit values ⌝ }
 {
-    let limit = wide(values[4]);
+    let limit = wide(values[MAX_ACTIVITIES]);
     if limit == 0 {
         return false;
     }
@@ -62,7 +66,7 @@ fn over_limit(values: [u32; 8]) -> bool
 fn reply_owed(values: [u32; 8]) -> bool
     ensures { λ r. ⌜ r ≡ replyOwed values ⌝ }
 {
-    values[5] == MQROUTE_ACCUMULATE_AND_REPLY
+    values[ACCUMULATE] == MQROUTE_ACCUMULATE_AND_REPLY
 }
 
 // The group is to be appended, and there is no room for it behind the message.

@@ -1,4 +1,13 @@
 // What is due for an event: the counter that is to rise, and whether the group is to be appended and reported.
+use attributes::ACCUMULATE;
+use attributes::DETAIL;
+use attributes::DISCONTINUITY_COUNT;
+use attributes::MQROUTE_ACCUMULATE_NONE;
+use attributes::MQROUTE_DETAIL_HIGH;
+use attributes::MQROUTE_DETAIL_LOW;
+use attributes::MQROUTE_DETAIL_MEDIUM;
+use attributes::RECORDED_ACTIVITIES;
+use attributes::UNRECORDED_ACTIVITIES;
 ghost use mathlib.Core.Path.{_≡_};
 ghost use mathlib.Core.Bool.{not, _&&_, _||_};
 ghost use Rattle.meaning.specs.Event.{rank, unrecordedForLevel, recordedIn};
@@ -30,16 +39,14 @@ pub struct Plan {
     pub reports: bool,
 }
 
-const MQROUTE_ACCUMULATE_NONE: u32 = 0x10003;
-
 // A level as a value of Detail.
 fn rank_of(level: Level) -> u32
     ensures { λ r. ⌜ r ≡ rank (levelOf level) ⌝ }
 {
     match level {
-        Level::Low => 2,
-        Level::Medium => 8,
-        Level::High => 32,
+        Level::Low => MQROUTE_DETAIL_LOW,
+        Level::Medium => MQROUTE_DETAIL_MEDIUM,
+        Level::High => MQROUTE_DETAIL_HIGH,
     }
 }
 
@@ -48,9 +55,9 @@ pub fn index_of(counter: Counter) -> usize
     ensures { λ r. ⌜ Index (counterOf counter) r ⌝ }
 {
     match counter {
-        Counter::Recorded => 1,
-        Counter::Unrecorded => 2,
-        Counter::Discontinuities => 3,
+        Counter::Recorded => RECORDED_ACTIVITIES,
+        Counter::Unrecorded => UNRECORDED_ACTIVITIES,
+        Counter::Discontinuities => DISCONTINUITY_COUNT,
     }
 }
 
@@ -97,9 +104,9 @@ pub fn plan_discontinuity() -> Plan
 pub fn plan_activity(values: [u32; 8], level: Level, asked: bool, settings: Settings) -> Plan
     ensures { λ r. ⌜ PlansActivity r values level asked settings ⌝ }
 {
-    let skipped = unrecorded_for_level(level, values[0]);
+    let skipped = unrecorded_for_level(level, values[DETAIL]);
     let reports = is_due(skipped, asked, settings.recording);
-    let accumulate = values[5] != MQROUTE_ACCUMULATE_NONE;
+    let accumulate = values[ACCUMULATE] != MQROUTE_ACCUMULATE_NONE;
     let appends = is_due(skipped, accumulate, settings.messaging);
     Plan {
         counter: counter_of(reports, appends),

@@ -14,14 +14,14 @@ unfolding inRange detailOk accumulateOk forwardOk deliverOk
 returns c =
     let v = c .before .before .before .before .before .before .before .before .args .t1 in
     rw (
-      c .one-of-three2 .ensures,
-      c .before .one-of-three .ensures,
-      c .before .before .one-bit2 .ensures,
-      c .before .before .before .one-bit .ensures,
-      c .before .before .before .before .is-small4 .ensures,
-      c .before .before .before .before .before .is-small3 .ensures,
-      c .before .before .before .before .before .before .is-small2 .ensures,
-      c .before .before .before .before .before .before .before .is-small .ensures,
+      c .one-bit2 .ensures,
+      c .before .one-bit .ensures,
+      c .before .before .one-of-three2 .ensures,
+      c .before .before .before .is-small4 .ensures,
+      c .before .before .before .before .is-small3 .ensures,
+      c .before .before .before .before .before .is-small2 .ensures,
+      c .before .before .before .before .before .before .is-small .ensures,
+      c .before .before .before .before .before .before .before .one-of-three .ensures,
     ) (ap (λ (t : Bool). detailOk (value v Detail) && t) (four-first (small (value v RecordedActivities)) (small (value v UnrecordedActivities)) (small (value v DiscontinuityCount)) (small (value v MaxActivities)) _))
 
 pub in-range-spec : {M : Type 1} → statement M
