@@ -65,7 +65,7 @@ fn attributes(
     members: u32,
     activity: Group,
 ) -> Traced
-    requires { ⌜ Within (now msg) len inside ⌝ }
+    requires { ⌜ Within (now msg) len inside members ⌝ }
     ensures { λ t. ⌜ tracedOf t ≡ attributesIn sheet (partOf (now (msg .entry)) len) inside members activity ⌝ }
 {
     let places = marks_of(msg, len, inside, members, sheet);
