@@ -16,8 +16,6 @@ use pcf::header_ok;
 use pcf::length_ok;
 use wire::number_at;
 ghost use mathlib.Core.Path.{_≡_};
-ghost use Prim.Native.Nat.{_≤_};
-ghost use lib.ListN.{length};
 ghost use Rattle.meaning.specs.Message.{partOf};
 ghost use Rattle.meaning.specs.Trace.{readTrace};
 ghost use Rattle.answers.specs.Refusals.{numberOf, placeOf};
