@@ -1,4 +1,4 @@
-/* CHECK in plain C, written by hand from document 01 and proved by nobody: what a careful program would have.
+/* CHECK in plain C, written by hand from the rules and proved by nobody: what a careful program would have.
  * It answers in the library's form: what is given times 32, or a refusal's place times 32 and its number. */
 #include <stdbool.h>
 #include <stddef.h>

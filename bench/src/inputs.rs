@@ -1,10 +1,8 @@
 //! The messages that are measured: all of them sound traces.
 
 use decoder::generate::{assemble, Piece};
+pub use decoder::sample::IBM as SHEET;
 use decoder::{Header, Sheet, Values};
-
-/// IBM's identifiers of the eight attributes.
-pub const SHEET: [u32; 8] = [1234, 1235, 1257, 1237, 1236, 1238, 1259, 1239];
 
 /// Low detail, nothing counted, no limit, accumulated in the message, to be
 /// forwarded to all and delivered.

@@ -5,8 +5,9 @@
 
 use crate::layout::{Choice, Input};
 use crate::structure::swell;
-use crate::tables::{IBM, MADE_UP, SPECIAL, VALUES};
+use crate::tables::{SPECIAL, VALUES};
 use decoder::generate::{Piece, NAMES};
+use decoder::sample::{IBM, MADE_UP};
 use decoder::{Activity, Event, Level, Settings, Sheet, Values};
 use differential::guard::Edge;
 

@@ -4,10 +4,11 @@
 use crate::layout::{Input, CHOICES};
 use crate::mend::{mend, mend_group};
 use crate::structure::{put_word, raise};
-use crate::tables::{IBM, MADE_UP, VALUES};
+use crate::tables::VALUES;
 use decoder::generate::{
     chain, damage, lent_group, sound_group, tree, values, Piece, Random, NAMES,
 };
+use decoder::sample::{IBM, MADE_UP};
 use decoder::{Row, Sheet, TRACE_ROUTE_GROUP};
 
 /// The engine's own change of bytes.

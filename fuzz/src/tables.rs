@@ -1,9 +1,5 @@
 //! The numbers that choices stand for.
 
-/// Document 01's made-up sheet, which is the ordinary one.
-pub const MADE_UP: [u32; 8] = [1201, 1202, 1203, 1204, 1205, 1206, 1207, 1208];
-/// IBM's identifiers.
-pub const IBM: [u32; 8] = [1234, 1235, 1257, 1237, 1236, 1238, 1259, 1239];
 /// The ends of the range, and numbers that have another meaning elsewhere.
 pub const SPECIAL: [u32; 8] = [1, 2, 8003, 8005, 3001, 1201, 0x7FFF_FFFE, 0x7FFF_FFFF];
 

@@ -1,12 +1,12 @@
 //! What the fuzzer makes of bytes before anything is compared.
 
 use decoder::generate::{any_message, damaged_trace, unsound_group, Random};
+use decoder::sample::MADE_UP;
 use decoder::{lent_group_is_sound, sample, Sheet};
 use fuzz::case::Case;
 use fuzz::layout::{Choice, Input};
 use fuzz::mend::{mend, mend_group};
 use fuzz::mutate::mutate;
-use fuzz::tables::MADE_UP;
 
 #[test]
 fn a_message_is_an_input() {

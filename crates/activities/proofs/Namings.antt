@@ -19,6 +19,7 @@ use Rattle.meaning.specs.Activity.{Span, bytesIn, noGroup, nthActivity, strings
 use Rattle.meaning.proofs.Tests.{clash, and-true}
 use Rattle.meaning.proofs.Structures.{row-at}
 use Rattle.meaning.proofs.Walks.{walks, here, there, in-nil}
+use Rattle.meaning.proofs.Parts.{row-kind, row-parameter}
 use Rattle.meaning.proofs.Fuel.{walk-zero}
 use Rattle.meaning.proofs.Sound.{Sound, sound}
 use Rattle.meaning.proofs.Strings.{string-data, walks-data, trim-pad, trim-other, take-last, trim-le}
@@ -28,7 +29,7 @@ use Rattle.trace.specs.Locations.{Done, done, Outcome, traced}
 use Rattle.activities.specs.Naming.{firstData, stringIn}
 use Rattle.trace.specs.declared.groups.Group.{Group}
 use Rattle.trace.proofs.Turns.{Over, walk-over}
-use Rattle.trace.proofs.Skipping.{sound-next, row-kind, row-parameter}
+use Rattle.trace.proofs.Skipping.{sound-next}
 use Rattle.trace.proofs.Marking.{Every, every-named, every-direct, next-direct}
 use Rattle.trace.proofs.Locating.{nth-walk}
 

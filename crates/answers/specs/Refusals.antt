@@ -1,4 +1,4 @@
--- Document 01's number and place for each refusal, and whether a reply is owed.
+-- The number and place of each refusal, and whether a reply is owed.
 use Prim.Native.Nat.{ℕ}
 use mathlib.Core.Bool.{Bool, false}
 use Rattle.meaning.specs.Names.{badLength, badHeader, badStructure, tooDeep, leftOver, noTraceHeader, noTraceRoute, badAttribute, badGroup, «MQFB_MAX_ACTIVITIES», counterFull, noRoom, reportTooShort, «MQFB_UNSUPPORTED_DELIVERY», «MQFB_UNSUPPORTED_FORWARDING», «MQFB_NOT_FORWARDED», badSheet}

@@ -1,8 +1,8 @@
-// The refusals of document 01: one case each, and its number and place.
+// The refusals: one case each, and its number and place.
 ghost use mathlib.Core.Path.{_≡_};
 ghost use Rattle.answers.specs.Refusals.{numberOf, placeOf, owed};
 
-// What an entry answers when it gives nothing. A case holds its place where document 01's table has one that is not 0.
+// What an entry answers when it gives nothing. A case holds its place where the rules' table has one that is not 0.
 pub enum Refusal {
     // 1: length above the buffer or 65,536, or below 36
     BadLength,

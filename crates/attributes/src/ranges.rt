@@ -1,5 +1,5 @@
 // The ranges of the eight attributes. Masks test the bits of Forward and Deliver in a 32-bit value.
-use pcf::TWO_TO_31;
+use structure::TWO_TO_31;
 ghost use mathlib.Core.Path.{_≡_};
 ghost use mathlib.Core.Bool.{_||_};
 ghost use lib.Dec.{eqb};

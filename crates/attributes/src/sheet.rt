@@ -1,5 +1,5 @@
 // The sheet: the identifiers of the eight attributes, eight different numbers from 1 to 2^31 - 1.
-use pcf::TWO_TO_31;
+use structure::TWO_TO_31;
 ghost use mathlib.Core.Path.{_≡_};
 ghost use Prim.Native.Nat.{_+_, _<_};
 ghost use lib.ListN.{getD, drop};

@@ -4,8 +4,8 @@ use crate::header::put_header;
 use answers::Refusal;
 use attributes::in_range;
 use attributes::sheet_ok;
-use pcf::MQCFT_GROUP;
-use pcf::MQCFT_INTEGER;
+use structure::MQCFT_GROUP;
+use structure::MQCFT_INTEGER;
 use wire::put_number;
 ghost use mathlib.Core.Path.{_≡_};
 ghost use mathlib.Core.List.{_∷_, []};
@@ -39,7 +39,7 @@ fn put_four(buf: &mut [u8], at: usize, kind: u32, size: u32, parameter: u32, las
     put_number(buf, at + 12, last);
 }
 
-// Header, TraceRoute group, and the eight integers in document 01's order.
+// Header, TraceRoute group, and the eight integers in the rules' order.
 fn put_trace(buf: &mut [u8], sheet: [u32; 8], values: [u32; 8])
     requires { ⌜ 180 ≤ length (now buf) ⌝ }
     ensures { λ _. ⌜ now (buf .exit) ≡ splice (now (buf .entry)) 0 (composedOf sheet values) ⌝ }

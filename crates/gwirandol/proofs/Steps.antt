@@ -6,8 +6,8 @@ use Rattle.meaning.specs.Answer.{accepted}
 use Rattle.meaning.specs.Message.{step}
 use Rattle.answers.specs.Refusals.{numberOf, refusal}
 use Rattle.answers.specs.declared.Refusal.{Refusal}
-use Rattle.pcf.specs.Rows.{rowOf}
-use Rattle.pcf.specs.declared.structure.Row.{Row}
+use Rattle.structure.specs.Rows.{rowOf}
+use Rattle.structure.specs.declared.structure.Row.{Row}
 use Rattle.gwirandol.specs.Structures.{Steps}
 
 pub steps-refused : (buf : List ℕ) (len place depth : ℕ) (before : List ℕ) (n : ℕ) (r : Refusal) → step buf len place depth ≡ refusal r → n ≡ numberOf r

@@ -1,4 +1,4 @@
--- THE P CASES of document 01: one table, and one theorem that the definitions answer as it says.
+-- THE P CASES of the rules: one table, and one theorem that the definitions answer as it says.
 use mathlib.Core.Path.{_≡_, refl}
 use mathlib.Core.Bool.{Bool, true, false}
 use mathlib.Core.List.{List, [], _∷_, _++_, map}
@@ -28,7 +28,7 @@ pub data Told : Type 0 where
   names : Name → Told
   decides : Result Decision → Told
 
--- what the definitions say, and what document 01 says
+-- what the definitions say, and what the rules say
 pub record Case : Type 0 where
   pub said : Told
   pub expected : Told

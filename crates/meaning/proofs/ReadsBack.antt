@@ -99,7 +99,7 @@ module _ (tm : Terms) (v buf : List ℕ) (ok : sheetOk (tm .sheet) ≡ true) (go
       let h = header-word (tm .sheet) v ok n8 fit m holds refl in
       (h 0 (omega arith) (omega arith), h 3 (omega arith) (omega arith), h 8 (omega arith) (omega arith))
 
--- THE LISTING of a composed message under the made-up sheet is document 01's text, whatever the values
+-- THE LISTING of a composed message under the made-up sheet is the rules' text, whatever the values
 abbrev pub madeUp : Terms
 madeUp = record { sheet = 1201 ∷ 1202 ∷ 1203 ∷ 1204 ∷ 1205 ∷ 1206 ∷ 1207 ∷ 1208 ∷ [] }
 

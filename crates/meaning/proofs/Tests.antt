@@ -59,3 +59,8 @@ unless-accepted false n p r x e = absurd (clash (cc))
 pub then-accepted : {A B : Type 0} (r : Result A) (go : A → Result B) (y : B) → andThen r go ≡ accepted y → (x : A) × (r ≡ accepted x) × (go x ≡ accepted y)
 then-accepted (accepted x) go y e = (x, refl, e)
 then-accepted (refused n p) go y e = absurd (clash (cc))
+
+-- what is refused in the end, but by no later step, was refused at once
+pub then-refused : {A B : Type 0} (r : Result A) (f : A → B) (k q : ℕ) → andThen r (λ x. accepted (f x)) ≡ refused k q → r ≡ refused k q
+then-refused (accepted x) f k q e = absurd (clash (cc))
+then-refused (refused k′ q′) f k q e = cc

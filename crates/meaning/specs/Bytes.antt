@@ -1,6 +1,6 @@
 -- Numbers in bytes, the PCF part of a message, and the splice that all writing is.
--- "All numbers are unsigned, 32 bits, most significant byte first." No rule looks into a 64-bit value: the table of
--- structure types asks only for its eight bytes.
+-- A number has four bytes, the highest first, and no sign. No rule looks into a 64-bit value: the table of structure types
+-- asks only for its eight bytes.
 use Prim.Native.Nat.{ℕ, _+_, _*_, _/_, _%_}
 use mathlib.Core.Bool.{cond}
 use mathlib.Core.List.{List, [], _∷_, _++_}

@@ -31,7 +31,7 @@ integers [] v = []
 integers (i ∷ is) [] = []
 integers (i ∷ is) (v ∷ vs) = «MQCFT_INTEGER» ∷ 16 ∷ i ∷ v ∷ integers is vs
 
--- the 45 numbers of the message: header, group, then the eight in document 01's order
+-- the 45 numbers of the message: header, group, then the eight in the rules' order
 unfoldable pub composedFields : List ℕ → List ℕ → List ℕ
 composedFields sheet v = traceHeaderFields ++ (groupFields ++ integers sheet v)
 

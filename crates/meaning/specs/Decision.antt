@@ -9,7 +9,7 @@ use Rattle.meaning.specs.Trace.{Terms, value, anyBit, read}
 pub data Decision : Type 0 where
   forward putLocally withhold : Decision
 
--- "Any bit under the mask 0xFFFF0000 in Forward or Deliver is an unrecognised option."
+-- an option of Forward or Deliver that nobody may pass over: some bit of the upper half is set
 unfoldable pub unrecognised : ℕ → Bool
 unrecognised x = anyBit rejectUnsupported x
 
@@ -20,9 +20,9 @@ deliverYes x = anyBit «MQROUTE_DELIVER_YES» x
 unfoldable pub ifSupported : ℕ → Bool
 ifSupported x = anyBit «MQROUTE_FORWARD_IF_SUPPORTED» x
 
--- 1. Not supporting: an unrecognised Deliver option gives 14; else Deliver yes gives forward.
--- 2. Still open: an unrecognised Forward option gives 15.
--- 3. Still open: supporting gives forward; not supporting gives 16 for "if supported" and forward for "all".
+-- Three steps. A manager without trace-route messaging is asked about Deliver first: 14 for an unrecognised option, and the
+-- message goes on if it may be delivered. What is not decided then is 15 for an unrecognised option of Forward. Last, a
+-- message that only supporting managers may get is 16 for the others; all the rest goes on.
 unfoldable pub forwardBy : List ℕ → Bool → Result Decision
 forwardBy v supporting =
     when (not supporting && unrecognised (value v Deliver)) (refused «MQFB_UNSUPPORTED_DELIVERY» 0)
@@ -30,13 +30,13 @@ forwardBy v supporting =
     (when (unrecognised (value v Forward)) (refused «MQFB_UNSUPPORTED_FORWARDING» 0)
     (when (not supporting && ifSupported (value v Forward)) (refused «MQFB_NOT_FORWARDED» 0) (accepted forward))))
 
--- An unrecognised Deliver option gives 14; else yes gives put, no gives withhold.
+-- 14 for an unrecognised option of Deliver; otherwise the message is put if Deliver says yes, and withheld if not.
 unfoldable pub arriveBy : List ℕ → Result Decision
 arriveBy v =
     when (unrecognised (value v Deliver)) (refused «MQFB_UNSUPPORTED_DELIVERY» 0)
     (when (deliverYes (value v Deliver)) (accepted putLocally) (accepted withhold))
 
--- FORWARDING to a remote manager that supports trace-route messaging or doesn't, and ARRIVAL: Read's refusals first
+-- FORWARDING, to a manager with or without trace-route messaging, and ARRIVAL: Read's refusals first
 unfoldable pub forwarding : Terms → List ℕ → ℕ → Bool → Result Decision
 forwarding tm buf len supporting = andThen (read tm buf len) (λ v. forwardBy v supporting)
 

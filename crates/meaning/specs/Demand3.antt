@@ -52,7 +52,7 @@ pub record Alike (q : ℕ) (t u : State) : Type 0 where
   pub same-report : t .report ≡ u .report
   pub same-bytes : (i : ℕ) → i < t .len → ((q ≤ i) × (i < q + 4) → ⊥) → getD (t .buf) i 0 ≡ getD (u .buf) i 0
 
--- THE RUN: an event gets the message, its length and the report buffer as the event before left them, refused or not
+-- THE RUN: each event finds message, length and report buffer as the one before left them, whatever that one answered
 unfoldable pub stateAfter : Terms → State → List Event → State
 stateAfter tm st [] = st
 stateAfter tm st (e ∷ es) = stateAfter tm ((event tm st e) .next) es
@@ -87,9 +87,9 @@ unfoldable pub due : Terms → State → Event → Bool
 due tm st e =
     soundEvent e && (ltb «MQROUTE_UNLIMITED_ACTIVITIES» (limitOf tm st) && ltb (limitOf tm st) (sumOf tm st + 1))
 
--- What holds of each trace by itself, for the whole list: it is rejected for its limit exactly when that is due; after
--- its first such rejection neither it nor its report buffer ever changes; after each event its sum is the sum at the
--- start plus the number of events accepted so far; it stays sound, with its limit where it was.
+-- What holds of each trace by itself, all along the list: an event meets the limit exactly when that is due; once one did,
+-- message and report buffer stay as they are for good; the counters have risen by the number of events accepted up to
+-- there; and it is still a sound trace, with its limit where it was.
 pub record Kept (tm : Terms) (t : State) (evs : List Event) : Type 0 where
   pub exact : (n : ℕ) → n < length evs → isLimit (answerAt tm t evs n) ≡ due tm (stateAt tm t evs n) (eventAt evs n)
   pub still : (n k : ℕ) → n ≤ k → k ≤ length evs → n < length evs → isLimit (answerAt tm t evs n) ≡ true
@@ -99,8 +99,8 @@ pub record Kept (tm : Terms) (t : State) (evs : List Event) : Type 0 where
   pub limit : (n : ℕ) → n ≤ length evs → limitOf tm (stateAt tm t evs n) ≡ limitOf tm t
   pub place : (n : ℕ) → n ≤ length evs → limitPlace tm (stateAt tm t evs n) ≡ limitPlace tm t
 
--- DEMAND 3, for one list of events: until the first trace is rejected for its limit both give the same answers, and
--- after each event report buffers and messages agree, but for the limit's four bytes; and each by itself is kept.
+-- DEMAND 3, for one list of events: as long as the first trace has not met its limit, the two answer alike and stay alike
+-- in all but the four bytes of their limits; and each by itself is kept.
 pub record Demand3 (tm : Terms) (t u : State) (evs : List Event) : Type 0 where
   pub same-answers : (n : ℕ) → n < length evs → ((k : ℕ) → k ≤ n → isLimit (answerAt tm t evs k) ≡ false)
       → answerAt tm t evs n ≡ answerAt tm u evs n

@@ -16,13 +16,13 @@ use Rattle.meaning.specs.Compose.{reportHeaderFields}
 pub data Level : Type 0 where
   low medium high : Level
 
--- an activity: its level, the lent Activity group, and whether the descriptor asks for activity reports
+-- an activity: its level, the Activity group that is lent for it, and whether its message asks for reports
 pub record Activity : Type 0 where
   pub level : Level
   pub group : List ℕ
   pub reportsAsked : Bool
 
--- whether the queue manager does activity recording, and whether it does trace-route messaging
+-- what the queue manager does: record activities, trace routes
 pub record Settings : Type 0 where
   pub activityRecording : Bool
   pub traceRouteMessaging : Bool
@@ -32,8 +32,8 @@ pub data Event : Type 0 where
   discontinuity : Event
   activity : Activity → Settings → Event
 
--- THE LENT GROUP is one whole group 8005, sound as if top-level, with nothing after it, 16 to 65,500 bytes: with a
--- report's header in front it is a message too. It is walked as a part of its own.
+-- THE LENT GROUP is a part of its own, which one sound group 8005 of depth 1 fills; of 16 to 65,500 bytes, so that it is a
+-- message with a report's header in front.
 abbrev pub lent : List ℕ → Part
 lent g = record { bytes = g; start = 0; end = length g }
 
@@ -62,15 +62,15 @@ rank low = «MQROUTE_DETAIL_LOW»
 rank medium = «MQROUTE_DETAIL_MEDIUM»
 rank high = «MQROUTE_DETAIL_HIGH»
 
--- "Activity whose level is less than Detail: unrecorded"
+-- an activity of a lower level than Detail is not recorded
 unfoldable pub unrecordedForLevel : Level → ℕ → Bool
 unrecordedForLevel level detail = ltb (rank level) detail
 
--- otherwise: reported if reports are asked for and activity recording is on
+-- any other is reported where that is asked for and the manager records activities
 unfoldable pub reported : List ℕ → Activity → Settings → Bool
 reported v a s = not (unrecordedForLevel (a .level) (value v Detail)) && (a .reportsAsked && s .activityRecording)
 
--- and accumulated if Accumulate isn't none and trace-route messaging is on
+-- and accumulated where the trace wants that and the manager traces routes
 unfoldable pub accumulated : List ℕ → Activity → Settings → Bool
 accumulated v a s =
     not (unrecordedForLevel (a .level) (value v Detail)) && (not (eqb (value v Accumulate) «MQROUTE_ACCUMULATE_NONE») && s .traceRouteMessaging)
@@ -94,7 +94,8 @@ planOf v (activity a s) = record {
   reports = reported v a s;
 }
 
--- THE ANSWER: which counter rose, whether the group was appended, the report's length or 0, the new message length
+-- THE ANSWER of an event that is done: the counter that rose, whether the group went into the message, the lengths of the
+-- report (0 for none) and of the message now
 pub record Done : Type 0 where
   pub counter : ℕ
   pub appended : Bool
@@ -148,7 +149,7 @@ pub record State : Type 0 where
   pub len : ℕ
   pub report : List ℕ
 
--- appended: the header's ParameterCount one higher, the group from the first byte behind the old end on
+-- appended: the header's ParameterCount one higher, and the group behind the message as it was
 unfoldable pub grown : Part → List ℕ → List ℕ → List ℕ
 grown s b g = splice (bump s b (countPlace s)) (s .end) g
 

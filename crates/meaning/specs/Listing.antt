@@ -59,7 +59,7 @@ endLine n = ascii "end " ++ column n newline
 unfoldable pub listingText : Part → ℕ → List Row → List ℕ
 listingText m len rows = headerLine m len ++ (rowLines rows ++ endLine (length rows))
 
--- "A refusal prints one line, `refused`, number, place."
+-- a refusal's only line: the word, its number, its place
 unfoldable pub refusalLine : ℕ → ℕ → List ℕ
 refusalLine n p = ascii "refused " ++ (column n blank ++ column p newline)
 

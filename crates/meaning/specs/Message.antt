@@ -87,7 +87,7 @@ unfoldable pub countsFrom : ℕ → ℕ → List Row → List ℕ
 countsFrom zero k rows = []
 countsFrom (suc n) k rows = countOf k rows ∷ countsFrom n (suc k) rows
 
--- "twenty-seven counts, one per type 0 to 26, nested structures included"
+-- a count for each type from 0 to 26; nested structures count too
 abbrev pub types : ℕ
 types = 27
 

@@ -1,4 +1,4 @@
--- The numbers that document 01 uses, under IBM's names, and the names of the refusals.
+-- The numbers that the rules use, under IBM's names, and the names of the refusals.
 -- (Names of IBM's stand in «..», because an underscore alone marks an argument's place in this language.)
 use Prim.Native.Nat.{ℕ}
 
@@ -128,7 +128,7 @@ abbrev pub «MQROUTE_DELIVER_NO» : ℕ
 abbrev pub rejectUnsupported : ℕ
 rejectUnsupported = 0xFFFF0000
 
--- The eight attributes, in document 01's order: their positions in a sheet, in a list of values and in a list of places.
+-- The eight attributes, in the rules' order: their positions in a sheet, in a list of values and in a list of places.
 abbrev pub Detail : ℕ
 Detail = 0
 
@@ -157,8 +157,8 @@ Deliver = 7
 abbrev pub attributes : ℕ
 attributes = 8
 
--- The refusals, by document 01's numbers. Four of them mean that IBM's feedback of that name is given; the number is still
--- document 01's, not the value of IBM's feedback code.
+-- The refusals, by their numbers. Four of them mean that IBM's feedback of that name is given; the number is still
+-- ours, not the value of IBM's feedback code.
 abbrev pub badLength : ℕ
 badLength = 1
 

@@ -16,7 +16,7 @@ pub record Row : Type 0 where
   pub size : ℕ
   pub members : ℕ
 
--- "Counts and lengths of 2^31 or more are faults."
+-- a count or a length is below 2^31
 abbrev pub small : ℕ → Bool
 small n = ltb n twoTo31
 
@@ -47,7 +47,7 @@ judged false deep p r = refused badStructure p
 judged true true p r = refused tooDeep p
 judged true false p r = accepted r
 
--- "StrucLength is also a multiple of 4."
+-- every StrucLength is a multiple of 4, whatever the type
 abbrev pub aligned : ℕ → Bool
 aligned n = eqb (n % 4) 0
 

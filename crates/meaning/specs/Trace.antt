@@ -11,7 +11,7 @@ use Rattle.meaning.specs.Answer.{Result, accepted, refused, andThen, unl
 use Rattle.meaning.specs.Structure.{Row, small}
 use Rattle.meaning.specs.Message.{headerType, version, command, msgSeqNumber, control, compCode, reason, parameterCount, partOf, scan}
 
--- THE SHEET: eight different numbers from 1 to 2^31 - 1
+-- THE SHEET: eight numbers, no two alike, each from 1 up and below 2^31
 unfoldable pub absent : ℕ → List ℕ → Bool
 absent x [] = true
 absent x (y ∷ ys) = not (eqb x y) && absent x ys
@@ -155,7 +155,7 @@ pub record Trace : Type 0 where
 pub record Terms : Type 0 where
   pub sheet : List ℕ
 
--- 8: an attribute absent, repeated, mistyped or out of range
+-- 8: some attribute is not there exactly once as an integer in its range
 unfoldable pub readMembers : List ℕ → Part → List Row → List Row → Result Trace
 readMembers sheet m rows members =
     unless (eachOnce sheet members && inRange (valuesAt m (placesOf sheet members))) (refused badAttribute 0)

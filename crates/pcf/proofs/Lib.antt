@@ -1,9 +1,5 @@
-mod Wide
-mod Lengths
-mod Soundness
 mod Counting
 pub mod Answers
-pub mod Extents
 pub mod Turns
 mod Tallying
 pub mod Numbering

@@ -14,8 +14,8 @@ use Rattle.meaning.proofs.Fuel.{walk-zero}
 use Rattle.meaning.proofs.Tallies.{rows-room}
 use Rattle.meaning.proofs.Lines.{walks-end}
 use Rattle.pcf.specs.Passings.{Passage, passage}
-use Rattle.pcf.proofs.Answers.{then-refused}
-use Rattle.pcf.proofs.Extents.{Reaches}
+use Rattle.meaning.proofs.Tests.{then-refused}
+use Rattle.structure.proofs.Extents.{Reaches}
 use Rattle.pcf.proofs.Turns.{behind, walk-refused, walk-halt, walk-on}
 
 -- a walk that came to q, over k structures

@@ -14,7 +14,7 @@ use Rattle.meaning.proofs.Walks.{walks}
 use Rattle.meaning.proofs.Fuel.{walk-zero}
 use Rattle.meaning.proofs.Tallies.{rows-room}
 use Rattle.pcf.specs.Tallies.{added, raised, Tally, tallied, Low}
-use Rattle.pcf.proofs.Extents.{Reaches, reach-least}
+use Rattle.structure.proofs.Extents.{Reaches, reach-least}
 use Rattle.pcf.proofs.Counting.{added-nil, added-append, raised-added, added-low}
 use Rattle.pcf.proofs.Turns.{behind, walk-refused, walk-halt, walk-on}
 

@@ -9,7 +9,7 @@ use Rattle.meaning.specs.Answer.{Result, accepted, refused, andThen}
 use Rattle.meaning.specs.Structure.{Row, structureAt}
 use Rattle.meaning.specs.Walk.{Walked, walked, ahead, enter, walk}
 use Rattle.meaning.proofs.Fuel.{walk-suc}
-use Rattle.pcf.proofs.Extents.{Reaches}
+use Rattle.structure.proofs.Extents.{Reaches}
 
 -- a walk with these rows in front
 abbrev pub behind : List Row → Result Walked → Result Walked

@@ -1,8 +1,8 @@
 // Passing over structures and all that is inside them: the walk without the counts by type, for all who only ask where it
 // ends. To carry an array into and out of each call takes longer than the walk itself.
-use crate::structure::Extent;
-use crate::structure::extent_at;
 use answers::Refusal;
+use structure::Extent;
+use structure::extent_at;
 ghost use mathlib.Core.Path.{_≡_};
 ghost use Prim.Native.Nat.{_≤_};
 ghost use lib.ListN.{length};

@@ -1,8 +1,8 @@
 // The walk over structures and all that is inside them, which counts them by their types. Only the tally needs the counts:
 // all others pass over structures without them.
-use crate::structure::Extent;
-use crate::structure::extent_at;
 use answers::Refusal;
+use structure::Extent;
+use structure::extent_at;
 use wire::number_at;
 ghost use mathlib.Core.Path.{_≡_};
 ghost use lib.ListN.{replicate};

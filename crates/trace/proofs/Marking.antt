@@ -19,7 +19,7 @@ use Rattle.meaning.proofs.Tests.{clash, and-true}
 use Rattle.meaning.proofs.Structures.{row-at}
 use Rattle.meaning.proofs.Walks.{walks, walks-depth, In, here, there}
 use Rattle.meaning.proofs.Fuel.{walk-zero}
-use Rattle.meaning.proofs.Parts.{num-part}
+use Rattle.meaning.proofs.Parts.{num-part, row-kind, row-parameter}
 use Rattle.meaning.proofs.Attributes.{getD-map, once-at}
 use Rattle.meaning.proofs.Tops.{direct-next}
 use Rattle.trace.specs.Passing.{passed, behindOf}
@@ -27,7 +27,7 @@ use Rattle.trace.specs.Marks.{onto, noted, notedIn, markFrom, Marked, al
 use Rattle.trace.specs.Locations.{rowsIn}
 use Rattle.attributes.proofs.Lists.{rest-none, rest-next}
 use Rattle.trace.proofs.Turns.{Over, walk-over}
-use Rattle.trace.proofs.Skipping.{behind-over, row-kind, row-parameter}
+use Rattle.trace.proofs.Skipping.{behind-over}
 
 -- ALL FOUND, one mark after the other
 pub found-none : (l : List ℕ) (k : ℕ) → length l ≤ k → allFound (drop k l) ≡ true

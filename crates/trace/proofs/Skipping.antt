@@ -11,9 +11,9 @@ use Rattle.meaning.specs.Structure.{Row, structureAt}
 use Rattle.meaning.specs.Walk.{Walked, walked, walk}
 use Rattle.meaning.specs.Message.{partOf, Stepped}
 use Rattle.meaning.proofs.Tests.{clash, then-accepted}
-use Rattle.meaning.proofs.Structures.{RowAt, row-at}
+use Rattle.meaning.proofs.Structures.{row-at}
 use Rattle.meaning.proofs.Members.{group-members, group-shallow, members-group}
-use Rattle.meaning.proofs.Parts.{num-part}
+use Rattle.meaning.proofs.Parts.{num-part, row-room, row-kind, row-size}
 use Rattle.trace.specs.Passing.{passed, behindOf, isSound}
 use Rattle.trace.proofs.Turns.{Over, over, walk-halt, walk-over, pass-over, pass-plain}
 
@@ -55,25 +55,10 @@ module _ (m : Part) (p d n : ℕ) (due : 0 < n) (sound : isSound (walk m p d n) 
     pub sound-next : isSound (walk m q d (n - 1)) ≡ true
     sound-next = rest (walk m q d (n - 1)) (ap (isSound {A = Walked}) (sym (walk-over m p d n due r q o)) ∙ sound)
 
--- ITS FIELDS, as they stand in the buffer
+-- THE MEMBERS of a structure, as they stand in the buffer
 module _ (s : List ℕ) (len p d : ℕ) (r : Row) (t : structureAt (partOf s len) p d ≡ accepted r) where
-  at : RowAt (partOf s len) p d r
-  at = row-at (partOf s len) p d r t
-
-  row-room : p + 16 ≤ len
-  row-room = omega (arith, at .at-fits, at .at-least)
-
-  pub row-kind : number s p ≡ r .kind
-  row-kind = sym (num-part s len p (omega (arith, row-room))) ∙ at .at-kind
-
-  pub row-size : number s (p + 4) ≡ r .size
-  row-size = sym (num-part s len (p + 4) (omega (arith, row-room))) ∙ at .at-size
-
-  pub row-parameter : number s (p + 8) ≡ r .parameter
-  row-parameter = sym (num-part s len (p + 8) (omega (arith, row-room))) ∙ at .at-parameter
-
   row-members : r .kind ≡ «MQCFT_GROUP» → number s (p + 12) ≡ r .members
-  row-members k = sym (num-part s len (p + 12) (omega (arith, row-room))) ∙ group-members (partOf s len) p d r t k
+  row-members k = sym (num-part s len (p + 12) (omega (arith, row-room s len p d r t))) ∙ group-members (partOf s len) p d r t k
 
   row-plain : (r .kind ≡ «MQCFT_GROUP» → ⊥) → r .members ≡ 0
   row-plain k = go (r .members) refl

@@ -11,12 +11,12 @@ use Rattle.meaning.specs.Message.{Stepped}
 use Rattle.meaning.proofs.Tests.{clash, then-accepted}
 use Rattle.meaning.proofs.Walks.{walks, walks-le}
 use Rattle.meaning.proofs.Fuel.{walk-zero}
-use Rattle.pcf.specs.Rows.{rowOf}
+use Rattle.structure.specs.Rows.{rowOf}
 use Rattle.pcf.specs.Messages.{steppedOf}
 use Rattle.pcf.proofs.Turns.{unfolded, walk-on}
 use Rattle.answers.specs.declared.Refusal.{Refusal}
 use Rattle.answers.specs.Refusals.{refusal}
-use Rattle.pcf.specs.declared.structure.Row.{Row as Found·Row}
+use Rattle.structure.specs.declared.structure.Row.{Row as Found·Row}
 use Rattle.pcf.specs.declared.message.Stepped.{Stepped as Steps}
 use Rattle.pcf.specs.declared.message.Stepped.the-variants as steps
 use Rattle.trace.specs.Passing.{passed}

@@ -3,16 +3,16 @@ use crate::passing::pass;
 use answers::Refusal;
 use compose::MQGACF_TRACE_ROUTE;
 use pcf::Ended;
-use pcf::MQCFT_GROUP;
-use pcf::Row;
 use pcf::Stepped;
+use structure::MQCFT_GROUP;
+use structure::Row;
 ghost use mathlib.Core.Path.{_≡_};
 ghost use Prim.Native.Nat.{_+_, _≤_, _<_};
 ghost use lib.ListN.{length};
 ghost use Rattle.meaning.specs.Walk.{walk};
 ghost use Rattle.meaning.specs.Message.{partOf};
 ghost use Rattle.answers.specs.Refusals.{refusal};
-ghost use Rattle.pcf.specs.Rows.{rowOf};
+ghost use Rattle.structure.specs.Rows.{rowOf};
 ghost use Rattle.trace.specs.Groups.{noGroupYet, noneYet, countRow, Countable, surveyOf, surveyed};
 
 // The identifier of an Activity group.

@@ -1,6 +1,6 @@
 // The eight attributes among the direct members of the TraceRoute group.
 use crate::passing::behind;
-use pcf::MQCFT_INTEGER;
+use structure::MQCFT_INTEGER;
 use wire::number_at;
 ghost use mathlib.Core.Path.{_≡_};
 ghost use Prim.Native.Nat.{_≤_};

@@ -1,11 +1,11 @@
 // Passing over a structure with all that is inside it.
-use pcf::Extent;
-use pcf::MQCFT_GROUP;
 use pcf::Passed;
-use pcf::Row;
 use pcf::Stepped;
-use pcf::extent_at;
 use pcf::over;
+use structure::Extent;
+use structure::MQCFT_GROUP;
+use structure::Row;
+use structure::extent_at;
 use wire::number_at;
 ghost use mathlib.Core.Path.{_≡_};
 ghost use Prim.Native.Nat.{_≤_};
@@ -57,7 +57,7 @@ pub fn behind(msg: &[u8], len: usize, place: usize, depth: u32) -> usize
     }
     let inner = over(msg, len, next, depth + 1, number_at(msg, place + 12));
     match inner {
-        // a sound group has sound members
+        // never: the members of a sound group are sound
         Passed::Refused(_) => next,
         Passed::Behind(behind, _) => behind,
     }

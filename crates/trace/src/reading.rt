@@ -11,7 +11,7 @@ ghost use Rattle.attributes.specs.Terms.{termsOf};
 ghost use Rattle.attributes.specs.Decisions.{judgedOf};
 ghost use Rattle.trace.specs.Readings.{valuesOf, reading};
 
-// The eight values of a sound trace, in document 01's order; all 0 if refused.
+// The eight values of a sound trace, in the rules' order; all 0 if refused.
 pub struct Values {
     pub answer: Answer,
     pub values: [u32; 8],

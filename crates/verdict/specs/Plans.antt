@@ -52,7 +52,7 @@ PlansActivity p v level asked s = (g : List ℕ) → planned p ≡ planOf v (act
 abbrev pub doneOf : Done → Told
 doneOf d = record { counter = counterOf (d .counter); appended = d .appended; reportLength = d .report; messageLength = d .message }
 
--- an answer: a refusal has document 01's number and place, and 10 says whether a reply is owed
+-- an answer: a refusal has its number and place, and 10 says whether a reply is owed
 abbrev pub answerOf : Answer → Said
 answerOf (answer.Done d) = done (doneOf d)
 answerOf (answer.Refused r) = denied (numberOf r) (placeOf r) (owed r)

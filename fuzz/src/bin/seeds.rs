@@ -2,9 +2,9 @@
 //! messages and with choices.
 
 use decoder::generate::{assemble, Piece};
-use decoder::{sample, Header, Sheet, Values};
+use decoder::sample::{self, IBM, MADE_UP};
+use decoder::{Header, Sheet, Values};
 use fuzz::layout::{Choice, Input};
-use fuzz::tables::{IBM, MADE_UP};
 use std::path::Path;
 use std::{env, fs, io};
 

@@ -40,7 +40,7 @@ pub struct Values {
 }
 
 impl Values {
-    /// The values from document 01's order.
+    /// The values from the rules' order.
     pub fn from_array(values: [u32; ATTRIBUTES]) -> Values {
         let [detail, recorded, unrecorded, discontinuities, max_activities, accumulate, forward, deliver] =
             values;
@@ -56,7 +56,7 @@ impl Values {
         }
     }
 
-    /// The values in document 01's order.
+    /// The values in the rules' order.
     pub fn to_array(&self) -> [u32; ATTRIBUTES] {
         [
             self.detail,

@@ -58,7 +58,7 @@ pub enum Counter {
 }
 
 impl Counter {
-    /// The counter's attribute in document 01's order.
+    /// The counter's attribute in the rules' order.
     pub(crate) fn attribute(self) -> usize {
         match self {
             Counter::Recorded => RECORDED,

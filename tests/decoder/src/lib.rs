@@ -1,4 +1,4 @@
-//! An independent decoder for the PCF and trace-route rules of document 01
+//! An independent decoder for the PCF and trace-route rules
 //! (`01-scope.md`), written from that paper alone so that its answers can be
 //! compared with those of the proved library.
 //!

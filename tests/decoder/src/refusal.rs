@@ -1,4 +1,4 @@
-//! Refusals: a number from document 01's table and a place in the message.
+//! Refusals: a number from the rules' table and a place in the message.
 
 /// A refusal with its number (1 to 17) and place. Places other than 0 occur
 /// with 3, 4 and 5 only.

@@ -3,7 +3,7 @@
 use crate::attribute::ATTRIBUTES;
 use crate::refusal::Refusal;
 
-/// The identifiers of the eight attributes in document 01's order: Detail,
+/// The identifiers of the eight attributes in the rules' order: Detail,
 /// RecordedActivities, UnrecordedActivities, DiscontinuityCount,
 /// MaxActivities, Accumulate, Forward, Deliver.
 #[derive(Clone, Copy, Debug, PartialEq, Eq)]

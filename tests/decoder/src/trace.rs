@@ -20,7 +20,7 @@ pub(crate) const VALUE_OFFSET: usize = 12;
 #[derive(Clone, Copy, Debug, PartialEq, Eq)]
 pub struct Trace {
     pub values: Values,
-    /// Starts of the eight attributes' integer structures, in document 01's
+    /// Starts of the eight attributes' integer structures, in the rules'
     /// order; each Value stands 12 bytes behind its start.
     pub places: [usize; ATTRIBUTES],
 }

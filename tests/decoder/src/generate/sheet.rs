@@ -1,11 +1,8 @@
 //! Sheets, sound and unsound.
 
 use super::random::Random;
+use crate::sample::{IBM, MADE_UP};
 use crate::sheet::Sheet;
-
-const MADE_UP: [u32; 8] = [1201, 1202, 1203, 1204, 1205, 1206, 1207, 1208];
-/// IBM's own identifiers in document 01's order.
-const REAL: [u32; 8] = [1234, 1235, 1257, 1237, 1236, 1238, 1259, 1239];
 
 /// Numbers that test the range's ends and meet other parameters.
 const SPECIAL: [u32; 8] = [1, 2, 8003, 8005, 3001, 1201, 0x7FFF_FFFE, 0x7FFF_FFFF];
@@ -13,7 +10,7 @@ const SPECIAL: [u32; 8] = [1, 2, 8003, 8005, 3001, 1201, 0x7FFF_FFFE, 0x7FFF_FFF
 pub fn sound_sheet(random: &mut Random) -> Sheet {
     match random.below(5) {
         0 | 1 => Sheet::new(MADE_UP),
-        2 => Sheet::new(REAL),
+        2 => Sheet::new(IBM),
         _ => mixed_sheet(random),
     }
 }

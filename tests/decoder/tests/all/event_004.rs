@@ -7,19 +7,7 @@ use decoder::*;
 fn listing_of_the_event() {
     let bytes = sample::event_004();
     assert_eq!(bytes.len(), 300);
-    let expected = "pcf 7 99 2 300\n\
-        1 36 20 8001 16\n\
-        2 52 4 3045 32\n\
-        2 84 3 1011 16\n\
-        2 100 4 3047 68\n\
-        2 168 3 1021 16\n\
-        1 184 20 8002 16\n\
-        2 200 4 3067 24\n\
-        2 224 3 1016 16\n\
-        2 240 6 3065 36\n\
-        2 276 5 1116 24\n\
-        end 10\n";
-    assert_eq!(listing_of_input(&bytes), expected);
+    assert_eq!(listing_of_input(&bytes), sample::EVENT_004_LISTING);
     assert_eq!(check(&bytes, 300), Ok(10));
 }
 

@@ -1,4 +1,4 @@
-//! Every example of document 01: the listing, and the hops on both sides of
+//! Every example of the rules: the listing, and the hops on both sides of
 //! the line.
 
 use crate::helpers::*;
@@ -8,18 +8,7 @@ use decoder::*;
 #[test]
 fn listing_of_a_composed_message() {
     let bytes = composed(&plain_values());
-    let expected = "pcf 10 75 1 180\n\
-        1 36 20 8003 16\n\
-        2 52 3 1201 16\n\
-        2 68 3 1202 16\n\
-        2 84 3 1203 16\n\
-        2 100 3 1204 16\n\
-        2 116 3 1205 16\n\
-        2 132 3 1206 16\n\
-        2 148 3 1207 16\n\
-        2 164 3 1208 16\n\
-        end 9\n";
-    assert_eq!(listing_of_input(&bytes), expected);
+    assert_eq!(listing_of_input(&bytes), sample::COMPOSED_LISTING);
 }
 
 #[test]

@@ -2,13 +2,13 @@
 
 use decoder::generate::{assemble, Piece};
 use decoder::{
-    Activity, Applied, Counter, EventRefusal, Level, Refusal, Settings, Sheet, Values,
+    sample, Activity, Applied, Counter, EventRefusal, Level, Refusal, Settings, Sheet, Values,
     ACCUMULATE_NONE, DELIVER_NO, DETAIL_LOW, FORWARD_ALL,
 };
 
-/// Document 01's made-up sheet.
+/// The rules' made-up sheet.
 pub fn sheet() -> Sheet {
-    Sheet::new([1201, 1202, 1203, 1204, 1205, 1206, 1207, 1208])
+    Sheet::new(sample::MADE_UP)
 }
 
 /// Plain values: low detail, no limit, no accumulation.

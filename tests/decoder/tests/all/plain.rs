@@ -6,7 +6,7 @@ use crate::helpers::*;
 use decoder::generate::{any_message, damaged_trace, Random};
 use decoder::*;
 
-/// One row of document 01's table: the offsets of the counts, whose product
+/// One row of the rules' table: the offsets of the counts, whose product
 /// times the scale is the data's size.
 struct Shape {
     kind: u128,

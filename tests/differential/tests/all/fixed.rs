@@ -2,40 +2,11 @@
 
 use crate::structures::compare;
 use decoder::generate::{assemble, Piece};
-use decoder::{Sheet, Values};
+use decoder::{sample, Sheet, Values};
 use differential::compare::structures::compare_step;
 use differential::compare::text::Text;
 use differential::ffi::{self, Answer};
 use differential::spread::Spread;
-
-/// Document 01's listing of a composed message, under its made-up sheet.
-pub const COMPOSED: &str = "pcf 10 75 1 180\n\
-    1 36 20 8003 16\n\
-    2 52 3 1201 16\n\
-    2 68 3 1202 16\n\
-    2 84 3 1203 16\n\
-    2 100 3 1204 16\n\
-    2 116 3 1205 16\n\
-    2 132 3 1206 16\n\
-    2 148 3 1207 16\n\
-    2 164 3 1208 16\n\
-    end 9\n";
-
-pub const MADE_UP: [u32; 8] = [1201, 1202, 1203, 1204, 1205, 1206, 1207, 1208];
-
-/// Document 004's event, read from its dump by eye.
-const EVENT: &str = "pcf 7 99 2 300\n\
-    1 36 20 8001 16\n\
-    2 52 4 3045 32\n\
-    2 84 3 1011 16\n\
-    2 100 4 3047 68\n\
-    2 168 3 1021 16\n\
-    1 184 20 8002 16\n\
-    2 200 4 3067 24\n\
-    2 224 3 1016 16\n\
-    2 240 6 3065 36\n\
-    2 276 5 1116 24\n\
-    end 10\n";
 
 const FIELDS: [u32; 8] = [7, 36, 3, 99, 1, 1, 0, 0];
 
@@ -59,16 +30,16 @@ fn thorough(message: &[u8], listing: &str) {
 fn document_01s_listing() {
     let values = Values::from_array([2, 0, 0, 0, 0, 0x10003, 0x100, 0x2000]);
     let mut message = [0; 180];
-    let composed = decoder::compose(&Sheet::new(MADE_UP), &values, &mut message);
+    let composed = decoder::compose(&Sheet::new(sample::MADE_UP), &values, &mut message);
     assert_eq!(composed, Ok(180));
-    thorough(&message, COMPOSED);
+    thorough(&message, sample::COMPOSED_LISTING);
 }
 
 #[test]
 fn document_004s_event() {
-    let message = decoder::sample::event_004();
+    let message = sample::event_004();
     assert_eq!(ffi::check(&message, 300), Answer::given(10));
-    thorough(&message, EVENT);
+    thorough(&message, sample::EVENT_004_LISTING);
 }
 
 /// The check's answer, which the decoder has to share.

@@ -60,7 +60,7 @@ fn declarations() {
     assert_eq!(declared, functions.count());
 }
 
-/// Document 01's refusal numbers, the attributes in its order, IBM's sheet.
+/// The rules' refusal numbers, the attributes in their order, IBM's sheet.
 const NUMBERS: [&str; 27] = [
     "GW_ACCEPTED = 0,",
     "GW_BAD_LENGTH = 1,",

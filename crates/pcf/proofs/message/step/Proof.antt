@@ -7,7 +7,7 @@ use denote.Ref.{now}
 use Rattle.meaning.specs.Message.{lengthOk, step}
 use Rattle.meaning.proofs.Structures.{row-at}
 use Rattle.meaning.proofs.Scans.{sized}
-use Rattle.pcf.proofs.Answers.{is-row, is-refusal}
+use Rattle.structure.proofs.Found.{is-row, is-refusal}
 use Rattle.pcf.proofs.message.step.Statement.{statement}
 use Rattle.pcf.proofs.message.step.Tie as tie
 

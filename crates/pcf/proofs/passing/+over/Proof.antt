@@ -13,12 +13,12 @@ use Rattle.meaning.specs.Walk.{walk}
 use Rattle.meaning.specs.Message.{partOf}
 use Rattle.pcf.specs.Passings.{passage}
 use Rattle.pcf.proofs.Answers.{passed-as}
-use Rattle.pcf.proofs.Extents.{Reaches, reaches, reaches-none, reach-fits, reach-least, reach-shallow}
+use Rattle.structure.proofs.Extents.{Reaches, reaches, reaches-none, reach-fits, reach-least, reach-shallow}
 use Rattle.pcf.proofs.Numbering.{numbered, number-all, past, past-fault, number-none, number-refused, number-on, number-halt, number-plain}
 use Rattle.pcf.proofs.passing.over.Reads as over
 use Rattle.pcf.proofs.passing.over.Kinds as over-kinds
 use Rattle.pcf.proofs.passing.+over.Lts-over as over-lts
-use Rattle.pcf.proofs.structure.extent_at.Reads as extent-at-reads
+use Rattle.structure.proofs.extent_at.Reads as extent-at-reads
 use Rattle.pcf.proofs.passing.+over.{statement}
 use Rattle.pcf.proofs.passing.+over.Tie.{close}
 

@@ -12,12 +12,12 @@ use Rattle.meaning.specs.Walk.{walk}
 use Rattle.meaning.specs.Message.{partOf}
 use Rattle.pcf.specs.Tallies.{raised, tallied, Low}
 use Rattle.pcf.proofs.Answers.{ended-as}
-use Rattle.pcf.proofs.Extents.{Reaches, reaches, reaches-none, reach-fits, reach-least, reach-type, reach-shallow, reach-kind}
+use Rattle.structure.proofs.Extents.{Reaches, reaches, reaches-none, reach-fits, reach-least, reach-type, reach-shallow, reach-kind}
 use Rattle.pcf.proofs.Tallying.{raised-low, came-low, turn-none, turn-refused, turn-on, turn-halt, turn-plain}
 use Rattle.pcf.proofs.walk.siblings.Reads as siblings
 use Rattle.pcf.proofs.walk.siblings.Kinds as siblings-kinds
 use Rattle.pcf.proofs.walk.+siblings.Lts-siblings as siblings-lts
-use Rattle.pcf.proofs.structure.extent_at.Reads as extent-at-reads
+use Rattle.structure.proofs.extent_at.Reads as extent-at-reads
 use Rattle.pcf.proofs.walk.stopped.Reads as stopped-reads
 use Rattle.wire.proofs.number_at.Reads as number-at-reads
 use Rattle.pcf.proofs.walk.+siblings.{statement}

@@ -1,8 +1,8 @@
-//! Document 01's hops on both sides of the line, through the library.
+//! The rules' hops on both sides of the line, through the library.
 
 use super::stage::Stage;
-use crate::fixed::{COMPOSED, MADE_UP};
 use decoder::generate::{assemble, Piece};
+use decoder::sample::{COMPOSED_LISTING, MADE_UP};
 use decoder::{Activity, Event, Level, Settings, Sheet, Values};
 use differential::compare::text::Text;
 use differential::ffi::{self, Answer};
@@ -22,8 +22,8 @@ fn composed(values: [u32; 8]) -> Vec<u8> {
 #[test]
 fn the_listing_of_a_composed_message() {
     let message = composed(PLAIN);
-    let answer = Text::new().list(&message, 180, COMPOSED.as_bytes());
-    assert_eq!(answer, Answer::given(COMPOSED.len() as u64));
+    let answer = Text::new().list(&message, 180, COMPOSED_LISTING.as_bytes());
+    assert_eq!(answer, Answer::given(COMPOSED_LISTING.len() as u64));
 }
 
 #[test]

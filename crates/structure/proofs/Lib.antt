@@ -1,0 +1,5 @@
+mod Wide
+mod Lengths
+mod Soundness
+pub mod Found
+pub mod Extents
