@@ -8,32 +8,34 @@ use lib.ListN.{length, getD, take, drop, length-take, length-drop, List·getD-eq
 use lib.Seq.{length-take-le, getD-drop}
 use lib.Dec.{ltb, eqb}
 use borrow.Author.Tests.{ltb-true, ltb-false, eqb-true, eq-eqb, ne-eqb}
-use Rattle.meaning.specs.Bytes.{Part, num}
-use Rattle.meaning.specs.Names.{mostBytes, «MQCFT_STRING», «MQGACF_ACTIVITY»}
+use Rattle.meaning.specs.Bytes.{Part, number, num}
+use Rattle.meaning.specs.Names.{«MQCFT_STRING», «MQGACF_ACTIVITY»}
 use Rattle.meaning.specs.Answer.{Result, accepted, refused, andThen, consIf}
 use Rattle.meaning.specs.Structure.{Row}
 use Rattle.meaning.specs.Walk.{Walked, walked, walk}
 use Rattle.meaning.specs.Message.{partOf, parameterCount}
 use Rattle.meaning.specs.Trace.{Terms, Trace, Top, activities, directIn, named, readTrace}
 use Rattle.meaning.specs.Activity.{Span, bytesIn, noGroup, nthActivity, strings, Name, inMessage, substitute, stringAt, trimmedAt, firstName, isPad, trimmed, nameOf}
-use Rattle.meaning.proofs.Tests.{clash}
+use Rattle.meaning.proofs.Tests.{clash, and-true}
 use Rattle.meaning.proofs.Structures.{row-at}
-use Rattle.meaning.proofs.Walks.{walks, walk-of, here, there, in-nil}
+use Rattle.meaning.proofs.Walks.{walks, here, there, in-nil}
+use Rattle.meaning.proofs.Parts.{row-kind, row-parameter}
 use Rattle.meaning.proofs.Fuel.{walk-zero}
 use Rattle.meaning.proofs.Sound.{Sound, sound}
-use Rattle.meaning.proofs.Strings.{walks-data, trim-pad, trim-other, take-last, trim-le}
-use Rattle.trace.specs.Passing.{passed}
+use Rattle.meaning.proofs.Strings.{string-data, walks-data, trim-pad, trim-other, take-last, trim-le}
+use Rattle.trace.specs.Passing.{isSound, Known}
 use Rattle.trace.specs.Groups.{groupOf, counted}
 use Rattle.trace.specs.Locations.{Done, done, Outcome, traced}
-use Rattle.activities.specs.Naming.{firstData, stringIn, isSound}
+use Rattle.activities.specs.Naming.{firstData, stringIn}
 use Rattle.trace.specs.declared.groups.Group.{Group}
-use Rattle.trace.proofs.Turns.{Over, walk-halt, walk-over}
+use Rattle.trace.proofs.Turns.{Over, walk-over}
+use Rattle.trace.proofs.Skipping.{sound-next}
 use Rattle.trace.proofs.Marking.{Every, every-named, every-direct, next-direct}
-use Rattle.trace.proofs.Locating.{nth-at}
+use Rattle.trace.proofs.Locating.{nth-walk}
 
 -- ONE TURN over direct members
-abbrev pub isString : ℕ → Row → Bool
-isString id r = eqb (r .kind) «MQCFT_STRING» && eqb (r .parameter) id
+abbrev isString : ℕ → ℕ → ℕ → Bool
+isString id kind parameter = eqb kind «MQCFT_STRING» && eqb parameter id
 
 string-more : (m : Part) (id : ℕ) (r : Row) (rs : List Row) (b c : Bool) → eqb (r .kind) «MQCFT_STRING» ≡ b → eqb (r .parameter) id ≡ c → b && c ≡ true
     → firstData m (named id (strings (r ∷ rs))) ≡ inMessage (stringAt m (r .place))
@@ -53,35 +55,44 @@ pub string-end : (m : Part) (p id : ℕ) → stringIn m id (walk m p 2 0) ≡ su
 unfolding directIn strings named
 string-end m p id = rw (walk-zero m p 2) refl
 
-module _ (m : Part) (p left id : ℕ) (due : 0 < left) (whole : isSound (walk m p 2 left) ≡ true) where
-  pub string-halt : (k q : ℕ) → passed m p 2 ≡ refused k q → ⊥
-  string-halt k q e =
-      let f : _≡_ {A = Bool} false true = ap isSound (sym (walk-halt m p 2 left due k q e)) ∙ whole in
-      clash (cc)
+-- the member that is passed over, and its fields as they were read
+pub record Member (s : List ℕ) (len p : ℕ) (r : Row) (q kind parameter : ℕ) : Type 0 where
+  pub over : Over (partOf s len) p 2 r q
+  pub is-kind : kind ≡ number s p
+  pub is-parameter : parameter ≡ number s (p + 8)
 
-  module _ (r : Row) (q : ℕ) (o : Over m p 2 r q) where
-    sound-rest : (w : Result Walked) → isSound (andThen w (λ y. walked (r ∷ (o .inside ++ y .rows)) (y .next))) ≡ true → isSound w ≡ true
-    sound-rest (accepted y) e = refl
-    sound-rest (refused k x) e = e
+module _ {s : List ℕ} {len p : ℕ} {r : Row} {q kind parameter : ℕ} (o : Member s len p r q kind parameter) where
+  abbrev part : Part
+  part = partOf s len
 
-    pub sound-next : isSound (walk m q 2 (left - 1)) ≡ true
-    sound-next = sound-rest (walk m q 2 (left - 1)) (ap isSound (sym (walk-over m p 2 left due r q o)) ∙ whole)
+  kind-read : kind ≡ r .kind
+  kind-read = o .is-kind ∙ row-kind s len p 2 r (o .over .there)
 
-    pub string-hit : isString id r ≡ true → stringIn m id (walk m p 2 left) ≡ inMessage (stringAt m p)
-    string-hit h = rw (walk-over m p 2 left due r q o) (go (walk m q 2 (left - 1)) sound-next)
+  test-read : (id : ℕ) (b : Bool) → isString id kind parameter ≡ b → isString id (r .kind) (r .parameter) ≡ b
+  test-read id b e =
+      let f : isString id (r .kind) (r .parameter) ≡ isString id kind parameter = cc (kind-read, o .is-parameter ∙ row-parameter s len p 2 r (o .over .there)) in
+      f ∙ e
+
+  -- a string's data lie in the message
+  pub string-in : (id : ℕ) → isString id kind parameter ≡ true → p + 20 + num part (p + 16) ≤ len
+  string-in id h = string-data part p 2 r (o .over .there) (sym kind-read ∙ eqb-true kind «MQCFT_STRING» (and-true (eqb kind «MQCFT_STRING») (eqb parameter id) h .0))
+
+  module _ (left : ℕ) (due : 0 < left) (id : ℕ) where
+    pub string-hit : isSound (walk part p 2 left) ≡ true → isString id kind parameter ≡ true → stringIn part id (walk part p 2 left) ≡ inMessage (stringAt part p)
+    string-hit sound h = rw (walk-over part p 2 left due r q (o .over)) (go (walk part q 2 (left - 1)) (sound-next part p 2 left due sound r q (o .over)))
       where
-        go : (w : Result Walked) → isSound w ≡ true → stringIn m id (andThen w (λ y. walked (r ∷ (o .inside ++ y .rows)) (y .next))) ≡ inMessage (stringAt m p)
+        go : (w : Result Walked) → isSound w ≡ true → stringIn part id (andThen w (λ y. walked (r ∷ (o .over .inside ++ y .rows)) (y .next))) ≡ inMessage (stringAt part p)
         go (accepted y) s =
-            rw (next-direct m p left due r q o y)
-            (string-more m id r (directIn (y .rows)) (eqb (r .kind) «MQCFT_STRING») (eqb (r .parameter) id) refl refl h
-            ∙ ap (λ (x : ℕ). inMessage (stringAt m x)) (sym (row-at m p 2 r (o .there) .at-place)))
+            rw (next-direct part p left due r q (o .over) y)
+            (string-more part id r (directIn (y .rows)) (eqb (r .kind) «MQCFT_STRING») (eqb (r .parameter) id) refl refl (test-read id true h)
+            ∙ ap (λ (x : ℕ). inMessage (stringAt part x)) (sym (row-at part p 2 r (o .over .there) .at-place)))
         go (refused k x) s = absurd (clash (cc))
 
-    pub string-miss : isString id r ≡ false → stringIn m id (walk m p 2 left) ≡ stringIn m id (walk m q 2 (left - 1))
-    string-miss h = rw (walk-over m p 2 left due r q o) (go (walk m q 2 (left - 1)))
+    pub string-miss : isString id kind parameter ≡ false → stringIn part id (walk part p 2 left) ≡ stringIn part id (walk part q 2 (left - 1))
+    string-miss h = rw (walk-over part p 2 left due r q (o .over)) (go (walk part q 2 (left - 1)))
       where
-        go : (w : Result Walked) → stringIn m id (andThen w (λ y. walked (r ∷ (o .inside ++ y .rows)) (y .next))) ≡ stringIn m id w
-        go (accepted y) = rw (next-direct m p left due r q o y) (string-other m id r (directIn (y .rows)) (eqb (r .kind) «MQCFT_STRING») (eqb (r .parameter) id) refl refl h)
+        go : (w : Result Walked) → stringIn part id (andThen w (λ y. walked (r ∷ (o .over .inside ++ y .rows)) (y .next))) ≡ stringIn part id w
+        go (accepted y) = rw (next-direct part p left due r q (o .over) y) (string-other part id r (directIn (y .rows)) (eqb (r .kind) «MQCFT_STRING») (eqb (r .parameter) id) refl refl (test-read id false h))
         go (refused k x) = refl
 
 -- A STRING that was found: its data lie in the message
@@ -169,9 +180,6 @@ module _ (tm : Terms) (buf : List ℕ) (len n id : ℕ) (o : Outcome) (h : o ≡
     facts : Sound tm buf len (trace .0)
     facts = sound tm buf len (trace .0) (trace .1)
 
-    pub message-in : (len ≤ length buf) × (len ≤ mostBytes)
-    message-in = (facts .lies .there, facts .lies .most)
-
     abbrev top : Top
     top = getD (activities (trace .0 .rows)) n noGroup
 
@@ -187,13 +195,11 @@ module _ (tm : Terms) (buf : List ℕ) (len n id : ℕ) (o : Outcome) (h : o ≡
       where
         go : (b : Bool) → ltb n (length (activities (trace .0 .rows))) ≡ b
             → (q : ℕ) × (walk m (top .row .place + top .row .size) 2 (top .row .members) ≡ walked (top .inside) q)
-        go true e =
-            let g = nth-at m 36 (parameterCount m) (trace .0 .rows) (facts .message .structures .tree) «MQGACF_ACTIVITY» n (ltb-true n (length (activities (trace .0 .rows))) e) in
-            (g .next, walk-of (g .within) (g .ends))
+        go true e = (_, nth-walk m 36 (parameterCount m) (trace .0 .rows) (facts .message .structures .tree) «MQGACF_ACTIVITY» n (ltb-true n (length (activities (trace .0 .rows))) e))
         go false e = rw (List·getD-eq-default (activities (trace .0 .rows)) noGroup (ltb-false n (length (activities (trace .0 .rows))) e)) (0, walk-zero m 0 2)
 
-    pub group-whole : isSound (walk m (o .activity .inside) 2 (o .activity .members)) ≡ true
-    group-whole = ap isSound (inside .1)
+    pub group-known : Known buf len (walk m (o .activity .inside) 2 (o .activity .members))
+    group-known = record { there = facts .lies .there; most = facts .lies .most; sound = ap isSound (inside .1) }
 
     is-name : nameOf tm buf len n id ≡ firstName buf len strings-in
     unfolding nameOf
@@ -208,7 +214,7 @@ module _ (tm : Terms) (buf : List ℕ) (len n id : ℕ) (o : Outcome) (h : o ≡
         let P : Row → Type 0 = λ r. (r .kind ≡ «MQCFT_STRING» → r .place + 20 + num m (r .place + 16) ≤ len) in
         let all = every-named (λ r. P r × (r .kind ≡ «MQCFT_STRING»)) id (strings (directIn (top .inside))) (every-string P (directIn (top .inside)) (every-direct P (top .inside) (λ r i. walks-data w r i))) in
         let g = first-of (λ r. P r × (r .kind ≡ «MQCFT_STRING»)) m strings-in s all e in
-        omega (arith, g .1 .0 (g .1 .1), ap (λ (x : Span). x .place) (g .2), ap (λ (x : Span). x .length) (g .2), message-in .0)
+        omega (arith, g .1 .0 (g .1 .1), ap (λ (x : Span). x .place) (g .2), ap (λ (x : Span). x .length) (g .2), facts .lies .there)
 
     pub name-missing : stringIn m id (walk m (o .activity .inside) 2 (o .activity .members)) ≡ substitute → substitute ≡ nameOf tm buf len n id
     name-missing e = sym (is-name ∙ name-none buf len strings-in (found-data substitute e))

@@ -1,8 +1,7 @@
 // Named strings in an Activity group, without their trailing blanks.
 use crate::group::Span;
-use pcf::Stepped;
 use trace::Answer;
-use trace::pass;
+use trace::behind;
 use trace::trace_of;
 use wire::number_at;
 ghost use mathlib.Core.Path.{_≡_};
@@ -12,7 +11,8 @@ ghost use Rattle.meaning.specs.Walk.{walk};
 ghost use Rattle.meaning.specs.Message.{partOf};
 ghost use Rattle.meaning.specs.Activity.{trimmed, nameOf};
 ghost use Rattle.attributes.specs.Terms.{termsOf};
-ghost use Rattle.activities.specs.Naming.{namedIn, stringIn, Walkable, Gives};
+ghost use Rattle.trace.specs.Passing.{Known};
+ghost use Rattle.activities.specs.Naming.{namedIn, stringIn, Gives};
 
 const MQCFT_STRING: u32 = 4;
 
@@ -41,29 +41,22 @@ fn kept(msg: &[u8], place: usize, size: usize) -> usize
     0
 }
 
-// The data of the first string with the identifier among a group's direct members, `count` of them, the first at `place`.
+// The data of the first string with the identifier among a group's direct members, `count` of them, the first at `place`. The
+// members were surveyed, so none is checked again.
 fn first_string(msg: &[u8], len: usize, place: usize, count: u32, id: u32) -> Named
-    requires { ⌜ Walkable (now msg) len place count ⌝ }
+    requires { ⌜ Known (now msg) len (walk (partOf (now msg) len) place 2 count) ⌝ }
     ensures { λ r. ⌜ namedIn r ≡ stringIn (partOf (now (msg .entry)) len) id (walk (partOf (now (msg .entry)) len) place 2 count) ⌝ }
 {
     let mut at = place;
     let mut left = count;
     while 0 < left {
-        let stepped = pass(msg, len, at, 2);
-        match stepped {
-            Stepped::Refused(_) => {
-                return Named::Substitute;
-            }
-            Stepped::Structure(row, behind) => {
-                if (row.kind == MQCFT_STRING) & (row.parameter == id) {
-                    return Named::InMessage(Span {
-                        place: at + 20,
-                        length: number_at(msg, at + 16) as usize,
-                    });
-                }
-                at = behind;
-            }
+        if (number_at(msg, at) == MQCFT_STRING) & (number_at(msg, at + 8) == id) {
+            return Named::InMessage(Span {
+                place: at + 20,
+                length: number_at(msg, at + 16) as usize,
+            });
         }
+        at = behind(msg, len, at, 2);
         left = left - 1;
     }
     Named::Substitute

@@ -1,13 +1,13 @@
 -- Bytes, numbers and text
 pub mod Numbers
 pub mod Splices
-pub mod Parts
 pub mod Joins
 pub mod Writing
 pub mod Decimals
 -- Structures, the walk and whole messages
 pub mod Tests
 pub mod Structures
+pub mod Parts
 pub mod Walks
 pub mod Fuel
 pub mod Kept

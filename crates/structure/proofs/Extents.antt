@@ -11,7 +11,7 @@ use Rattle.meaning.specs.Message.{partOf}
 use Rattle.meaning.proofs.Tests.{then-accepted}
 use Rattle.meaning.proofs.Structures.{RowAt, row-at}
 use Rattle.meaning.proofs.Members.{members-shallow}
-use Rattle.meaning.proofs.Parts.{num-part}
+use Rattle.meaning.proofs.Parts.{row-kind, row-parameter}
 use Rattle.answers.specs.Refusals.{refusal}
 use Rattle.answers.specs.declared.Refusal.{Refusal}
 use Rattle.structure.specs.Rows.{Reach, reachOf, extentOf}
@@ -61,10 +61,10 @@ row-as r d p t k n j a b c e f g = rw (a, b, c, e, ← f, ← g) refl
 -- its Type and its row, with the numbers that were read
 module _ (s : List ℕ) (end p d n k : ℕ) (r : Reaches (partOf s end) p d n k) where
   pub reach-kind : (t : ℕ) → t ≡ number s p → t ≡ r .row .kind
-  reach-kind t e = e ∙ sym (num-part s end p (omega (arith, reach-fits r, reach-least r))) ∙ at r .at-kind
+  reach-kind t e = e ∙ row-kind s end p d (r .row) (r .there)
 
   pub reach-row : (t j : ℕ) → t ≡ number s p → j ≡ number s (p + 8)
       → structureAt (partOf s end) p d ≡ accepted (record { depth = d; place = p; kind = t; parameter = j; size = n; members = k })
   reach-row t j e f =
-      let g = f ∙ sym (num-part s end (p + 8) (omega (arith, reach-fits r, reach-least r))) ∙ at r .at-parameter in
+      let g = f ∙ row-parameter s end p d (r .row) (r .there) in
       r .there ∙ ap accepted (row-as (r .row) d p t j n k (at r .at-depth) (at r .at-place) (reach-kind t e) g (r .size) (r .members))

@@ -1,4 +1,5 @@
 pub mod Turns
+pub mod Skipping
 mod Surveys
 pub mod Marking
 pub mod Locating

@@ -17,13 +17,14 @@ use Rattle.meaning.specs.Trace.{Terms, Trace, sheetOk, traceFields, traceHeader
 use Rattle.meaning.specs.Activity.{noGroup}
 use Rattle.meaning.specs.Compose.{headerFields, traceHeaderFields}
 use Rattle.meaning.proofs.Tests.{clash, and-true, and-false}
-use Rattle.meaning.proofs.Scans.{scan-walk}
+use Rattle.meaning.proofs.Scans.{sized, scan-walk}
 use Rattle.meaning.proofs.Walks.{Walks, walks, walks-as, walk-of, in-nil, tiles, tiles-row}
 use Rattle.meaning.proofs.Parts.{num-part}
 use Rattle.meaning.proofs.Tops.{tiles-from, TopAt, all-at, all-groups, tops-at}
 use Rattle.compose.specs.Headers.{fieldsOf, startsWith}
+use Rattle.trace.specs.Passing.{isSound}
 use Rattle.trace.specs.Groups.{groupOf, counted, Surveyed, surveyed}
-use Rattle.trace.specs.Locations.{rowsIn, stop, found, attributesBy, attributesIn, judgedIn, Outcome, traced, located}
+use Rattle.trace.specs.Locations.{Within, rowsIn, stop, found, attributesBy, attributesIn, judgedIn, Outcome, traced, located}
 use Rattle.trace.specs.declared.groups.Group.{Group}
 use Rattle.trace.specs.declared.groups.Counted.{Counted}
 use Rattle.compose.specs.declared.header.Kind.the-variants.{Trace as trace}
@@ -131,19 +132,19 @@ module _ (m : Part) (p count : ℕ) (rows : List Row) (tree : Walks m p 1 count 
   unfolding groups
   nth-at id n h = all-at (all-groups id (tops-at tree)) noGroup n h
 
-  pub nth-inside : (id n : ℕ) → n < length (groups id rows)
-      → rowsIn (walk m (groupOf (getD (groups id rows) n noGroup) .inside) 2 (groupOf (getD (groups id rows) n noGroup) .members)) ≡ getD (groups id rows) n noGroup .inside
+  pub nth-walk : (id n : ℕ) (h : n < length (groups id rows))
+      → walk m (groupOf (getD (groups id rows) n noGroup) .inside) 2 (groupOf (getD (groups id rows) n noGroup) .members) ≡ walked (getD (groups id rows) n noGroup .inside) (nth-at id n h .next)
   unfolding groupOf
-  nth-inside id n h = let t = nth-at id n h in ap rowsIn (walk-of (t .within) (t .ends))
+  nth-walk id n h = let t = nth-at id n h in walk-of (t .within) (t .ends)
 
-  pub nth-behind : (id n : ℕ) → n < length (groups id rows) → p ≤ groupOf (getD (groups id rows) n noGroup) .inside
+  nth-behind : (id n : ℕ) → n < length (groups id rows) → p ≤ groupOf (getD (groups id rows) n noGroup) .inside
   unfolding groupOf
   nth-behind id n h = omega (arith, nth-at id n h .behind)
 
   route-members : length (traceRoutes rows) ≡ 1
       → directIn (rowsIn (walk m (counted «MQGACF_TRACE_ROUTE» 0 rows .group .inside) 2 (counted «MQGACF_TRACE_ROUTE» 0 rows .group .members))) ≡ directMembers (traceRoutes rows)
   unfolding counted
-  route-members e = ap directIn (nth-inside «MQGACF_TRACE_ROUTE» 0 (omega arith)) ∙ sym (one-group (traceRoutes rows) e)
+  route-members e = ap (λ (w : Result Walked). directIn (rowsIn w)) (nth-walk «MQGACF_TRACE_ROUTE» 0 (omega arith)) ∙ sym (one-group (traceRoutes rows) e)
 
   traced-unless : (n : ℕ) (b : Bool) (k q : ℕ) (r : Result Trace) → traced n (unless b (refused k q) r) ≡ unless b (stop k q) (traced n r)
   traced-unless n true k q r = refl
@@ -252,11 +253,18 @@ module _ {tm : Terms} {buf : List ℕ} {len n count : ℕ} {s : Surveyed} (b : B
           ∙ ap (λ (x : Counted). judgedIn (tm .sheet) (partOf buf len) (counted «MQGACF_TRACE_ROUTE» 0 (t .rows)) (x .group)) (t .activities)
           ∙ sym (rows-read (partOf buf len) 36 count (t .rows) tree (tm .sheet) n) ∙ ap (traced n) (sym whole-read)
 
-      pub route-behind : s .routes .count ≡ 1 → 2 ≤ s .routes .group .inside
+      -- the survey went over the members of the one TraceRoute group
+      pub route-within : s .routes .count ≡ 1 → Within buf len (s .routes .group .inside) (s .routes .group .members)
       unfolding counted
-      route-behind =
-          subst (λ (x : Counted). x .count ≡ 1 → 2 ≤ x .group .inside) (sym (t .routes))
-          (λ i. omega (arith, nth-behind (partOf buf len) 36 count (t .rows) tree «MQGACF_TRACE_ROUTE» 0 (omega arith)))
+      route-within =
+          subst (λ (x : Counted). x .count ≡ 1 → Within buf len (x .group .inside) (x .group .members)) (sym (t .routes))
+          (λ i.
+          let first : 0 < length (traceRoutes (t .rows)) = omega arith in
+          let z = sized buf len (b .sized) in
+          record {
+            known = record { there = z .there; most = z .most; sound = ap isSound (nth-walk (partOf buf len) 36 count (t .rows) tree «MQGACF_TRACE_ROUTE» 0 first) };
+            behind = omega (arith, nth-behind (partOf buf len) 36 count (t .rows) tree «MQGACF_TRACE_ROUTE» 0 first);
+          })
 
 -- without the Activity group
 pub located-traced : (n : ℕ) (r : Result Trace) (o : Outcome) → o ≡ traced n r → record { answer = o .answer; places = o .places; values = o .values } ≡ located r

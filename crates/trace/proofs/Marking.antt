@@ -19,14 +19,15 @@ use Rattle.meaning.proofs.Tests.{clash, and-true}
 use Rattle.meaning.proofs.Structures.{row-at}
 use Rattle.meaning.proofs.Walks.{walks, walks-depth, In, here, there}
 use Rattle.meaning.proofs.Fuel.{walk-zero}
-use Rattle.meaning.proofs.Parts.{num-part}
+use Rattle.meaning.proofs.Parts.{num-part, row-kind, row-parameter}
 use Rattle.meaning.proofs.Attributes.{getD-map, once-at}
 use Rattle.meaning.proofs.Tops.{direct-next}
+use Rattle.trace.specs.Passing.{passed, behindOf}
 use Rattle.trace.specs.Marks.{onto, noted, notedIn, markFrom, Marked, allFound, InReach}
-use Rattle.trace.specs.Passing.{passed}
 use Rattle.trace.specs.Locations.{rowsIn}
 use Rattle.attributes.proofs.Lists.{rest-none, rest-next}
-use Rattle.trace.proofs.Turns.{Over, walk-halt, walk-over}
+use Rattle.trace.proofs.Turns.{Over, walk-over}
+use Rattle.trace.proofs.Skipping.{behind-over}
 
 -- ALL FOUND, one mark after the other
 pub found-none : (l : List ℕ) (k : ℕ) → length l ≤ k → allFound (drop k l) ≡ true
@@ -54,41 +55,41 @@ values-read msg len places v eight n reach h =
 -- THE MARK of an identifier after members is its mark after those of them that have the identifier
 ontoAll : ℕ → List Row → ℕ
 ontoAll mark [] = mark
-ontoAll mark (r ∷ rs) = ontoAll (onto mark r) rs
+ontoAll mark (r ∷ rs) = ontoAll (onto mark (r .kind) (r .place)) rs
 
 noted-named : (id mark : ℕ) (rows : List Row) → notedIn id mark rows ≡ ontoAll mark (named id rows)
 unfolding notedIn noted named ontoAll
 noted-named id mark [] = refl
 noted-named id mark (r ∷ rs) = go (eqb (r .parameter) id) (λ k. noted-named id k rs)
   where
-    go : (b : Bool) → ((k : ℕ) → notedIn id k rs ≡ ontoAll k (named id rs)) → notedIn id (cond b (onto mark r) mark) rs ≡ ontoAll mark (consIf b r (named id rs))
-    go true ih = ih (onto mark r)
+    go : (b : Bool) → ((k : ℕ) → notedIn id k rs ≡ ontoAll k (named id rs)) → notedIn id (cond b (onto mark (r .kind) (r .place)) mark) rs ≡ ontoAll mark (consIf b r (named id rs))
+    go true ih = ih (onto mark (r .kind) (r .place))
     go false ih = ih mark
 
 -- a mark that is at fault stays so
-onto-second : (mark : ℕ) (r : Row) → 0 < mark → onto mark r ≡ 1
-onto-second mark r h = rw (ne-eqb mark 0 (λ q. omega arith)) (go (eqb (r .kind) «MQCFT_INTEGER»))
+onto-second : (mark kind place : ℕ) → 0 < mark → onto mark kind place ≡ 1
+onto-second mark kind place h = rw (ne-eqb mark 0 (λ q. omega arith)) (go (eqb kind «MQCFT_INTEGER»))
   where
-    go : (b : Bool) → cond (b && false) (r .place) 1 ≡ 1
+    go : (b : Bool) → cond (b && false) place 1 ≡ 1
     go true = refl
     go false = refl
 
 fault-stays : (rows : List Row) → ontoAll 1 rows ≡ 1
 unfolding ontoAll
 fault-stays [] = refl
-fault-stays (r ∷ rs) = ap (λ (k : ℕ). ontoAll k rs) (onto-second 1 r (omega arith)) ∙ fault-stays rs
+fault-stays (r ∷ rs) = ap (λ (k : ℕ). ontoAll k rs) (onto-second 1 (r .kind) (r .place) (omega arith)) ∙ fault-stays rs
 
-onto-first : (r : Row) → 1 < r .place → (ltb 1 (onto 0 r) ≡ eqb (r .kind) «MQCFT_INTEGER») × (eqb (r .kind) «MQCFT_INTEGER» ≡ true → onto 0 r ≡ r .place)
-onto-first r h = go (eqb (r .kind) «MQCFT_INTEGER»)
+onto-first : (kind place : ℕ) → 1 < place → (ltb 1 (onto 0 kind place) ≡ eqb kind «MQCFT_INTEGER») × (eqb kind «MQCFT_INTEGER» ≡ true → onto 0 kind place ≡ place)
+onto-first kind place h = go (eqb kind «MQCFT_INTEGER»)
   where
-    go : (b : Bool) → (ltb 1 (cond (b && true) (r .place) 1) ≡ b) × (b ≡ true → cond (b && true) (r .place) 1 ≡ r .place)
-    go true = (lt-ltb 1 (r .place) h, λ e. refl)
+    go : (b : Bool) → (ltb 1 (cond (b && true) place 1) ≡ b) × (b ≡ true → cond (b && true) place 1 ≡ place)
+    go true = (lt-ltb 1 place h, λ e. refl)
     go false = (refl, λ e. absurd (clash (cc)))
 
-positive : (r : Row) → 1 < r .place → 0 < onto 0 r
-positive r h = go (eqb (r .kind) «MQCFT_INTEGER»)
+positive : (kind place : ℕ) → 1 < place → 0 < onto 0 kind place
+positive kind place h = go (eqb kind «MQCFT_INTEGER»)
   where
-    go : (b : Bool) → 0 < cond (b && true) (r .place) 1
+    go : (b : Bool) → 0 < cond (b && true) place 1
     go true = omega arith
     go false = omega arith
 
@@ -104,9 +105,10 @@ Placed rows = Every (λ r. 1 < r .place) rows
 mark-once : (rows : List Row) → Placed rows → (ltb 1 (ontoAll 0 rows) ≡ oneInteger rows) × (oneInteger rows ≡ true → ontoAll 0 rows ≡ placeOfFirst rows)
 unfolding ontoAll oneInteger placeOfFirst
 mark-once [] h = (refl, λ e. absurd (clash (cc)))
-mark-once (r ∷ []) h = onto-first r (h r (here refl))
+mark-once (r ∷ []) h = onto-first (r .kind) (r .place) (h r (here refl))
 mark-once (r ∷ q ∷ rs) h =
-    let e : ontoAll (onto (onto 0 r) q) rs ≡ 1 = ap (λ (k : ℕ). ontoAll k rs) (onto-second (onto 0 r) q (positive r (h r (here refl)))) ∙ fault-stays rs in
+    let first : ℕ = onto 0 (r .kind) (r .place) in
+    let e : ontoAll (onto first (q .kind) (q .place)) rs ≡ 1 = ap (λ (k : ℕ). ontoAll k rs) (onto-second first (q .kind) (q .place) (positive (r .kind) (r .place) (h r (here refl)))) ∙ fault-stays rs in
     (ap (ltb 1) e, λ z. absurd (clash (cc)))
 
 pub every-if : (P : Row → Type 0) (b : Bool) (x : Row) (xs rest : List Row) → Every P (x ∷ xs) → Every P rest → Every P (consIf b x rest)
@@ -188,19 +190,29 @@ unfolding directIn notedIn
 mark-end m p id mark = rw (walk-zero m p 2) refl
 
 module _ (m : Part) (p left : ℕ) (due : 0 < left) where
-  pub mark-halt : (k q : ℕ) → passed m p 2 ≡ refused k q → (id mark : ℕ) → markFrom id mark (walk m p 2 left) ≡ 0
-  mark-halt k q e id mark = rw (walk-halt m p 2 left due k q e) refl
-
   module _ (r : Row) (q : ℕ) (o : Over m p 2 r q) where
     pub next-direct : (y : Walked) → directIn (r ∷ (o .inside ++ y .rows)) ≡ r ∷ directIn (y .rows)
     next-direct y =
         direct-next r (o .inside) (y .rows) (sym (row-at m p 2 r (o .there) .at-depth))
         (λ x i. walks-depth (walks m (p + r .size) 3 (r .members) (o .inside) q (o .within)) x i)
 
-    pub mark-next : (id mark : ℕ) → markFrom id mark (walk m p 2 left) ≡ markFrom id (noted id mark r) (walk m q 2 (left - 1))
+    mark-next : (id mark : ℕ) → markFrom id mark (walk m p 2 left) ≡ markFrom id (noted id mark (r .kind) (r .parameter) (r .place)) (walk m q 2 (left - 1))
     unfolding notedIn
     mark-next id mark = rw (walk-over m p 2 left due r q o) (go (walk m q 2 (left - 1)))
       where
-        go : (w : Result Walked) → markFrom id mark (andThen w (λ y. walked (r ∷ (o .inside ++ y .rows)) (y .next))) ≡ markFrom id (noted id mark r) w
+        go : (w : Result Walked) → markFrom id mark (andThen w (λ y. walked (r ∷ (o .inside ++ y .rows)) (y .next))) ≡ markFrom id (noted id mark (r .kind) (r .parameter) (r .place)) w
         go (accepted y) = rw (next-direct y) refl
         go (refused k x) = refl
+
+-- the same with the fields that were read, and the place behind
+pub mark-read : (s : List ℕ) (len p left q kind parameter : ℕ) → 0 < left → behindOf (passed (partOf s len) p 2) ≡ accepted q → kind ≡ number s p
+    → parameter ≡ number s (p + 8) → (id mark : ℕ)
+    → markFrom id mark (walk (partOf s len) p 2 left) ≡ markFrom id (noted id mark kind parameter p) (walk (partOf s len) q 2 (left - 1))
+mark-read s len p left q kind parameter due b k j id mark =
+    let o = behind-over (partOf s len) p 2 q b in
+    let r : Row = o .0 in
+    let a : kind ≡ r .kind = k ∙ row-kind s len p 2 r (o .1 .there) in
+    let e : parameter ≡ r .parameter = j ∙ row-parameter s len p 2 r (o .1 .there) in
+    let f : p ≡ r .place = row-at (partOf s len) p 2 r (o .1 .there) .at-place in
+    let g : noted id mark (r .kind) (r .parameter) (r .place) ≡ noted id mark kind parameter p = cc in
+    mark-next (partOf s len) p left due r q (o .1) id mark ∙ ap (λ (x : ℕ). markFrom id x (walk (partOf s len) q 2 (left - 1))) g

@@ -6,13 +6,14 @@ use mathlib.Core.List.{List, []}
 use lib.ListN.{length, replicate}
 use lib.Dec.{eqb}
 use Rattle.meaning.specs.Bytes.{Part, number}
-use Rattle.meaning.specs.Names.{attributes, mostBytes, noTraceHeader, noTraceRoute, badAttribute, «MQGACF_ACTIVITY»}
+use Rattle.meaning.specs.Names.{attributes, noTraceHeader, noTraceRoute, badAttribute, «MQGACF_ACTIVITY»}
 use Rattle.meaning.specs.Answer.{Result, accepted, refused, unless}
 use Rattle.meaning.specs.Structure.{Row}
 use Rattle.meaning.specs.Walk.{Walked, walk}
 use Rattle.meaning.specs.Message.{partOf, headerOk}
 use Rattle.meaning.specs.Trace.{traceHeader, directIn, eachOnce, placesOf, valuesAt, inRange, Trace}
 use Rattle.answers.specs.Refusals.{refusal}
+use Rattle.trace.specs.Passing.{Known}
 use Rattle.trace.specs.Groups.{noGroupYet, counted}
 use Rattle.trace.specs.declared.groups.Group.{Group}
 use Rattle.trace.specs.declared.groups.Counted.{Counted}
@@ -87,17 +88,15 @@ judgedIn sheet m routes activity =
     (unless (eqb (routes .count) 1) (stop noTraceRoute 0)
     (attributesIn sheet m (routes .group .inside) (routes .group .members) activity))
 
--- the message is there, and a group's members stand behind the header
-pub record Within (msg : List ℕ) (len inside : ℕ) : Type 0 where
-  pub there : len ≤ length msg
-  pub most : len ≤ mostBytes
+-- a group's members are sound, and stand behind the header
+pub record Within (msg : List ℕ) (len inside members : ℕ) : Type 0 where
+  pub known : Known msg len (walk (partOf msg len) inside 2 members)
   pub behind : 2 ≤ inside
 
--- the header is sound, its count is known, and a group that was counted stands behind it
+-- the header is sound, its count is known, and the members of a group that was counted are sound behind it
 pub record Headed (msg : List ℕ) (len count : ℕ) (routes : Counted) : Type 0 where
   pub there : len ≤ length msg
-  pub most : len ≤ mostBytes
   pub least : 36 ≤ len
   pub sound : headerOk (partOf msg len) ≡ true
   pub read : count ≡ number msg 32
-  pub behind : routes .count ≡ 1 → 2 ≤ routes .group .inside
+  pub within : routes .count ≡ 1 → Within msg len (routes .group .inside) (routes .group .members)

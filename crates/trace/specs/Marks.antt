@@ -11,18 +11,18 @@ use Rattle.meaning.specs.Structure.{Row}
 use Rattle.meaning.specs.Walk.{Walked}
 use Rattle.meaning.specs.Trace.{directIn}
 
--- after one more member with the identifier: only the first one, and only an integer, has a place
-abbrev pub onto : ℕ → Row → ℕ
-onto mark r = cond (eqb (r .kind) «MQCFT_INTEGER» && eqb mark 0) (r .place) 1
+-- after one more member with the identifier, of a type and at a place: only the first one, and only an integer, has a place
+abbrev pub onto : ℕ → ℕ → ℕ → ℕ
+onto mark kind place = cond (eqb kind «MQCFT_INTEGER» && eqb mark 0) place 1
 
--- after one more member
-unfoldable pub noted : ℕ → ℕ → Row → ℕ
-noted id mark r = cond (eqb (r .parameter) id) (onto mark r) mark
+-- after one more member, of a type, with a parameter and at a place
+unfoldable pub noted : ℕ → ℕ → ℕ → ℕ → ℕ → ℕ
+noted id mark kind parameter place = cond (eqb parameter id) (onto mark kind place) mark
 
 -- after members
 unfoldable pub notedIn : ℕ → ℕ → List Row → ℕ
 notedIn id mark [] = mark
-notedIn id mark (r ∷ rs) = notedIn id (noted id mark r) rs
+notedIn id mark (r ∷ rs) = notedIn id (noted id mark (r .kind) (r .parameter) (r .place)) rs
 
 -- after the direct members that a walk has gone over
 abbrev pub markFrom : ℕ → ℕ → Result Walked → ℕ
@@ -30,9 +30,9 @@ markFrom id mark (accepted w) = notedIn id mark (directIn (w .rows))
 markFrom id mark (refused k p) = 0
 
 -- the marks `after` are those before, each after one more member
-pub record Noted (sheet marks : List ℕ) (r : Row) (after : List ℕ) : Type 0 where
+pub record Noted (sheet marks : List ℕ) (kind parameter place : ℕ) (after : List ℕ) : Type 0 where
   pub eight : length after ≡ 8
-  pub each : (j : ℕ) → j < 8 → getD after j 0 ≡ noted (getD sheet j 0) (getD marks j 0) r
+  pub each : (j : ℕ) → j < 8 → getD after j 0 ≡ noted (getD sheet j 0) (getD marks j 0) kind parameter place
 
 -- these are the marks of the identifiers after a walk
 pub record Marked (sheet : List ℕ) (w : Result Walked) (marks : List ℕ) : Type 0 where

@@ -12,7 +12,7 @@ pub use location::Located;
 pub use location::Traced;
 pub use location::locate;
 pub use location::trace_of;
-pub use passing::pass;
+pub use passing::behind;
 pub use reading::Values;
 pub use reading::arrive;
 pub use reading::forward;

@@ -16,8 +16,6 @@ use pcf::header_ok;
 use pcf::length_ok;
 use wire::number_at;
 ghost use mathlib.Core.Path.{_≡_};
-ghost use Prim.Native.Nat.{_≤_};
-ghost use lib.ListN.{length};
 ghost use Rattle.meaning.specs.Message.{partOf};
 ghost use Rattle.meaning.specs.Trace.{readTrace};
 ghost use Rattle.answers.specs.Refusals.{numberOf, placeOf};
@@ -65,7 +63,7 @@ fn attributes(
     members: u32,
     activity: Group,
 ) -> Traced
-    requires { ⌜ Within (now msg) len inside ⌝ }
+    requires { ⌜ Within (now msg) len inside members ⌝ }
     ensures { λ t. ⌜ tracedOf t ≡ attributesIn sheet (partOf (now (msg .entry)) len) inside members activity ⌝ }
 {
     let places = marks_of(msg, len, inside, members, sheet);

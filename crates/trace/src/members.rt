@@ -1,8 +1,6 @@
 // The eight attributes among the direct members of the TraceRoute group.
-use crate::passing::pass;
-use pcf::Stepped;
+use crate::passing::behind;
 use structure::MQCFT_INTEGER;
-use structure::Row;
 use wire::number_at;
 ghost use mathlib.Core.Path.{_≡_};
 ghost use Prim.Native.Nat.{_≤_};
@@ -10,7 +8,7 @@ ghost use lib.ListN.{length};
 ghost use Rattle.meaning.specs.Walk.{walk};
 ghost use Rattle.meaning.specs.Message.{partOf};
 ghost use Rattle.meaning.specs.Trace.{valuesAt};
-ghost use Rattle.structure.specs.Rows.{rowOf};
+ghost use Rattle.trace.specs.Passing.{Known};
 ghost use Rattle.trace.specs.Marks.{noted, Noted, Marked, allFound, InReach};
 
 // An attribute has a mark: the place of its integer, or one of these, which are no places of structures. Once a member with
@@ -20,55 +18,53 @@ const ABSENT: usize = 0;
 const FAULT: usize = 1;
 
 // The mark of the attribute with the identifier, after one more direct member of the group.
-fn note(id: u32, mark: usize, row: Row) -> usize
-    ensures { λ r. ⌜ r ≡ noted id mark (rowOf row) ⌝ }
+fn note(id: u32, mark: usize, kind: u32, parameter: u32, place: usize) -> usize
+    ensures { λ r. ⌜ r ≡ noted id mark kind parameter place ⌝ }
 {
-    if row.parameter != id {
+    if parameter != id {
         return mark;
     }
-    if row.kind != MQCFT_INTEGER {
+    if kind != MQCFT_INTEGER {
         return FAULT;
     }
     if mark != ABSENT {
         return FAULT;
     }
-    row.place
+    place
 }
 
 // The marks of the eight attributes, after one more direct member of the group.
-fn note_all(sheet: [u32; 8], marks: [usize; 8], row: Row) -> [usize; 8]
-    ensures { λ r. ⌜ Noted sheet marks (rowOf row) r ⌝ }
+fn note_all(
+    sheet: [u32; 8],
+    marks: [usize; 8],
+    kind: u32,
+    parameter: u32,
+    place: usize,
+) -> [usize; 8]
+    ensures { λ r. ⌜ Noted sheet marks kind parameter place r ⌝ }
 {
     let mut after = marks;
     let mut k = 0;
     while k < 8 {
-        after[k] = note(sheet[k], marks[k], row);
+        after[k] = note(sheet[k], marks[k], kind, parameter, place);
         k += 1;
     }
     after
 }
 
 // The marks of the eight attributes after all of a group's direct members, `count` of them, the first at `place`. What is
-// nested deeper is passed over.
+// nested deeper is passed over. The members were surveyed, so none is checked again.
 pub fn marks_of(msg: &[u8], len: usize, place: usize, count: u32, sheet: [u32; 8]) -> [usize; 8]
-    requires { ⌜ (len ≤ length (now msg)) × (len ≤ 65536) ⌝ }
+    requires { ⌜ Known (now msg) len (walk (partOf (now msg) len) place 2 count) ⌝ }
     ensures { λ r. ⌜ Marked sheet (walk (partOf (now (msg .entry)) len) place 2 count) r ⌝ }
 {
     let mut at = place;
     let mut left = count;
     let mut marks = [0usize; 8];
     while 0 < left {
-        let stepped = pass(msg, len, at, 2);
-        match stepped {
-            Stepped::Refused(_) => {
-                return [0usize; 8];
-            }
-            Stepped::Structure(row, behind) => {
-                let after = note_all(sheet, marks, row);
-                marks = after;
-                at = behind;
-            }
-        }
+        let after = note_all(sheet, marks, number_at(msg, at), number_at(msg, at + 8), at);
+        marks = after;
+        at = behind(msg, len, at, 2);
         left = left - 1;
     }
     marks

@@ -3,15 +3,17 @@ use pcf::Passed;
 use pcf::Stepped;
 use pcf::over;
 use structure::Extent;
+use structure::MQCFT_GROUP;
 use structure::Row;
 use structure::extent_at;
 use wire::number_at;
 ghost use mathlib.Core.Path.{_≡_};
 ghost use Prim.Native.Nat.{_≤_};
 ghost use lib.ListN.{length};
+ghost use Rattle.meaning.specs.Answer.{accepted};
 ghost use Rattle.meaning.specs.Message.{partOf};
 ghost use Rattle.pcf.specs.Messages.{steppedOf};
-ghost use Rattle.trace.specs.Passing.{passed};
+ghost use Rattle.trace.specs.Passing.{passed, behindOf, Known};
 
 // The structure at `place`, of this depth, and the place behind all that is inside it, or the first fault there.
 pub fn pass(msg: &[u8], len: usize, place: usize, depth: u32) -> Stepped
@@ -40,5 +42,23 @@ pub fn pass(msg: &[u8], len: usize, place: usize, depth: u32) -> Stepped
                 Passed::Behind(behind, _) => Stepped::Structure(row, behind),
             }
         }
+    }
+}
+
+// The place behind a structure that is known to be sound, and behind all that is inside it. Its fields are read and not checked
+// again: whoever goes over the members of a group that was surveyed asks this of each.
+pub fn behind(msg: &[u8], len: usize, place: usize, depth: u32) -> usize
+    requires { ⌜ Known (now msg) len (passed (partOf (now msg) len) place depth) ⌝ }
+    ensures { λ r. ⌜ behindOf (passed (partOf (now (msg .entry)) len) place depth) ≡ accepted r ⌝ }
+{
+    let next = place + number_at(msg, place + 4) as usize;
+    if number_at(msg, place) != MQCFT_GROUP {
+        return next;
+    }
+    let inner = over(msg, len, next, depth + 1, number_at(msg, place + 12));
+    match inner {
+        // never: the members of a sound group are sound
+        Passed::Refused(_) => next,
+        Passed::Behind(behind, _) => behind,
     }
 }

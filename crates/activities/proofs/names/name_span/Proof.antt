@@ -6,7 +6,7 @@ use Rattle.meaning.specs.Activity.{inMessage}
 use Rattle.attributes.specs.Terms.{termsOf}
 use Rattle.trace.specs.Locations.{answerOf}
 use Rattle.activities.specs.Naming.{namedIn}
-use Rattle.activities.proofs.Namings.{name-lost, message-in, group-whole, string-fits, name-missing, name-found}
+use Rattle.activities.proofs.Namings.{name-lost, group-known, string-fits, name-missing, name-found}
 use borrow.Author.Needs.{needs}
 use Rattle.activities.proofs.names.name_span.Statement.{statement}
 use Rattle.activities.proofs.names.name_span.Tie as tie
@@ -14,9 +14,7 @@ use Rattle.activities.proofs.names.name_span.Tie as tie
 first-string-requires : tie.Need-first-string-requires
 first-string-requires c κs =
     let a = c .before .before .before .before .before .args in
-    let f = ap answerOf (c .before .enum-told2 .given .1) in
-    let i = message-in (termsOf (a .sheet)) (now (a .msg)) (a .len) (a .n) (a .id) _ (c .before .before .before .trace-of .ensures) f in
-    record { there = i .0; most = i .1; whole = group-whole (termsOf (a .sheet)) (now (a .msg)) (a .len) (a .n) (a .id) _ (c .before .before .before .trace-of .ensures) f }
+    group-known (termsOf (a .sheet)) (now (a .msg)) (a .len) (a .n) (a .id) _ (c .before .before .before .trace-of .ensures) (ap answerOf (c .before .enum-told2 .given .1))
 
 kept-requires : tie.Need-kept-requires
 kept-requires c κs =

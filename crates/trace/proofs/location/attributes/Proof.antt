@@ -48,7 +48,7 @@ returns c =
     c .stopped .ensures ∙ attributes-unfound (a .sheet) (part k) (members k) (a .activity) (once k false (not-true _ (c .before .if1 .taken)))
 
 values-at-requires : tie.Need-values-at-requires
-values-at-requires c κs = (c .before .before .before .before .pre .there, reach (c .before) (c .if1 .left))
+values-at-requires c κs = (c .before .before .before .before .pre .known .there, reach (c .before) (c .if1 .left))
 
 returns-2 : tie.Need-returns-2
 returns-2 c =

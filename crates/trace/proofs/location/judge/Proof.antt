@@ -34,7 +34,7 @@ returns-3 c =
     c .stopped3 .ensures ∙ judge-routes (s .args .sheet) _ (s .args .routes) (s .args .activity) (header (c .before .before .before .before) true (not-false _ (c .before .before .before .if2 .left))) (c .before .if3 .taken)
 
 attributes-requires : tie.Need-attributes-requires
-attributes-requires c κs = let s = c .before .before .before .before .before .before .before in record { there = s .pre .there; most = s .pre .most; behind = s .pre .behind (c .before .if3 .left) }
+attributes-requires c κs = c .before .before .before .before .before .before .before .pre .within (c .before .if3 .left)
 
 returns-4 : tie.Need-returns-4
 returns-4 c =

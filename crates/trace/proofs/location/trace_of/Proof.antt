@@ -10,7 +10,7 @@ use Rattle.meaning.proofs.Scans.{sized, header-part, scan-unsized, scan-unheade
 use Rattle.pcf.specs.Tallies.{endedOf}
 use Rattle.attributes.specs.Terms.{termsOf}
 use Rattle.trace.specs.Groups.{surveyOf}
-use Rattle.trace.proofs.Locating.{trace-unsheeted, trace-unscanned, Begun, trace-halt, trace-left, trace-whole, route-behind}
+use Rattle.trace.proofs.Locating.{trace-unsheeted, trace-unscanned, Begun, trace-halt, trace-left, trace-whole, route-within}
 use borrow.Author.Needs.{needs}
 use Rattle.trace.proofs.location.trace_of.Statement.{statement}
 use Rattle.trace.proofs.location.trace_of.Tie as tie
@@ -73,11 +73,10 @@ judge-requires c κs =
     let z = sized _ _ (s .sized) in
     record {
       there = z .there;
-      most = z .most;
       least = z .least;
       sound = s .header;
       read = s .read;
-      behind = route-behind s _ (ap endedOf (c .before .before .before .before .ended2 .given .1)) (c .before .before .if4 .left);
+      within = route-within s _ (ap endedOf (c .before .before .before .before .ended2 .given .1)) (c .before .before .if4 .left);
     }
 
 returns-5 : tie.Need-returns-5

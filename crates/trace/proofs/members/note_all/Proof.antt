@@ -4,17 +4,16 @@ use Prim.Native.Nat.{_-_, _≤_}
 use native.Mathlib.Omega.{arith}
 use borrow.Author.Needs.{needs}
 use lib.ListN.{length, getD, length-set}
-use Rattle.structure.specs.Rows.{rowOf}
 use Rattle.trace.specs.Marks.{noted}
 use Rattle.attributes.proofs.Lists.{Filled, filled-next}
 use Rattle.trace.proofs.members.note_all.Statement.{statement}
 use Rattle.trace.proofs.members.note_all.Tie as tie
 
 abbrev Inv-loop : tie.InvT-loop
-Inv-loop row sheet marks after₀ k₀ after k = (k ≤ 8) × (length after ≡ 8) × Filled (λ j. noted (getD sheet j 0) (getD marks j 0) (rowOf row)) after k
+Inv-loop kind parameter place sheet marks after₀ k₀ after k = (k ≤ 8) × (length after ≡ 8) × Filled (λ j. noted (getD sheet j 0) (getD marks j 0) kind parameter place) after k
 
 abbrev μ-loop : tie.MeasureT-loop
-μ-loop row sheet marks after₀ k₀ after k = 8 - k
+μ-loop kind parameter place sheet marks after₀ k₀ after k = 8 - k
 
 loop-again : tie.Need-loop-again Inv-loop μ-loop
 loop-again c =
