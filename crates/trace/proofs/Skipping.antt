@@ -1,4 +1,4 @@
--- Structures that are known to be sound: what is behind them, and their fields as they stand in the buffer.
+-- Structures that are known to be sound, and the place behind them, by the fields that were read.
 use mathlib.Core.Path.{_≡_, refl, sym, ap, _∙_}
 use mathlib.Core.Bool.{true}
 use mathlib.Core.List.{List, _∷_, _++_}
@@ -32,6 +32,7 @@ known-room m p d h =
     let g = row-at m p d (o .0 .row) (o .1 .there) in
     omega (arith, g .at-fits, g .at-least)
 
+-- the same, by the place behind it
 pub behind-over : (m : Part) (p d q : ℕ) → behindOf (passed m p d) ≡ accepted q → (r : Row) × Over m p d r q
 behind-over m p d q e =
     let f = then-accepted (passed m p d) (λ s. accepted (s .next)) q e in
