@@ -5,7 +5,7 @@ use mathlib.Core.List.{List}
 use Prim.Native.Nat.{ℕ, _+_, _%_, _≤_, _<_}
 use native.Mathlib.Omega.{arith}
 use lib.Dec.{leb, ltb, eqb}
-use borrow.Author.Tests.{le-leb, eq-eqb, ne-eqb, leb-true}
+use borrow.Author.Tests.{le-leb, eq-eqb, ne-eqb, leb-true, ltb-true, ltb-false}
 use Rattle.meaning.specs.Bytes.{number, num, word}
 use Rattle.meaning.specs.Names.{«MQCFT_GROUP», mostDepth}
 use Rattle.meaning.specs.Structure.{Row, judged, judge, structureAt}
@@ -16,6 +16,13 @@ use Rattle.meaning.proofs.Parts.{num-part, word-part}
 use Rattle.structure.specs.Rules.{kept, JudgesAs, fieldOf}
 use Rattle.structure.specs.Rows.{soundIn}
 use Rattle.structure.specs.declared.table.Rule.{Rule}
+
+-- 16 bytes are left, or fewer, as the test says
+pub few : {b : Bool} (end place : ℕ) → b ≡ ltb end (place + 16) → b ≡ true → end < place + 16
+few end place e h = ltb-true end (place + 16) (sym e ∙ h)
+
+pub enough : {b : Bool} (end place : ℕ) → b ≡ ltb end (place + 16) → b ≡ false → place + 16 ≤ end
+enough end place e h = ltb-false end (place + 16) (sym e ∙ h)
 
 module _ (s : List ℕ) (end p t n : ℕ) where
   -- a sound structure ends in the message, and its length is one that its type allows

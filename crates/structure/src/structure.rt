@@ -5,7 +5,7 @@ use answers::Refusal;
 use wire::number_at;
 ghost use mathlib.Core.Path.{_≡_};
 ghost use mathlib.Core.Bool.{cond, not, _&&_};
-ghost use Prim.Native.Nat.{_-_, _≤_};
+ghost use Prim.Native.Nat.{_+_, _≤_};
 ghost use lib.Dec.{eqb, ltb};
 ghost use lib.ListN.{length};
 ghost use Rattle.meaning.specs.Names.{«MQCFT_GROUP», mostDepth};
@@ -46,11 +46,14 @@ pub enum Extent {
     Refused(Refusal),
 }
 
-// The bytes from `place` to `end`, none if the place lies behind it.
-fn bytes_left(end: usize, place: usize) -> usize
-    ensures { λ r. ⌜ r ≡ end - place ⌝ }
+// Fewer than 16 bytes are left from `place` to `end`. The place may be any number, so that it cannot be added to.
+fn too_short(end: usize, place: usize) -> bool
+    ensures { λ r. ⌜ r ≡ ltb end (place + 16) ⌝ }
 {
-    if place < end { end - place } else { 0 }
+    if end < 16 {
+        return true;
+    }
+    end - 16 < place
 }
 
 // The structure ends at or before `end`, and its length is a multiple of 4 and keeps its type's rule. No rule allows less
@@ -100,7 +103,7 @@ pub fn structure_at(s: &[u8], end: usize, place: usize, depth: u32) -> Found
     requires { ⌜ end ≤ length (now s) ⌝ }
     ensures { λ r. ⌜ foundOf r ≡ structureAt (partOf (now (s .entry)) end) place depth ⌝ }
 {
-    if bytes_left(end, place) < 16 {
+    if too_short(end, place) {
         return Found::Refused(Refusal::BadStructure(place));
     }
     let kind = number_at(s, place);
@@ -124,7 +127,7 @@ pub fn extent_at(s: &[u8], end: usize, place: usize, depth: u32) -> Extent
     requires { ⌜ end ≤ length (now s) ⌝ }
     ensures { λ r. ⌜ extentOf r ≡ reachOf (structureAt (partOf (now (s .entry)) end) place depth) ⌝ }
 {
-    if bytes_left(end, place) < 16 {
+    if too_short(end, place) {
         return Extent::Refused(Refusal::BadStructure(place));
     }
     let kind = number_at(s, place);
