@@ -10,7 +10,8 @@
 enum { STACK = 1 << 20, PATTERN = 0xa5, DEPTH = 8 };
 
 static const uint32_t sheet[8] = GW_IBM_SHEET;
-static const uint32_t values[8] = {2, 0, 0, 0, 0, 0x10004, 0x100, 0x1000};
+static const uint32_t values[8] = {GW_MQROUTE_DETAIL_LOW, 0, 0, 0, 0, GW_MQROUTE_ACCUMULATE_IN_MSG, GW_MQROUTE_FORWARD_ALL,
+                                   GW_MQROUTE_DELIVER_YES};
 static uint8_t message[1024], copy[1024], report[1024], text[GW_LISTING_BYTES];
 static size_t length, group_length;
 

@@ -56,7 +56,8 @@ static int refuse(const char *what, gw_answer answer)
 static int compose(const char *name, uint32_t limit)
 {
     /* low detail, nothing counted yet, accumulated in the message with a reply, to be forwarded to all, not delivered */
-    uint32_t values[8] = {2, 0, 0, 0, limit, 0x10005, 0x100, 0x2000};
+    uint32_t values[8] = {GW_MQROUTE_DETAIL_LOW, 0, 0, 0, limit, GW_MQROUTE_ACCUMULATE_AND_REPLY,
+                          GW_MQROUTE_FORWARD_ALL, GW_MQROUTE_DELIVER_NO};
     gw_answer answer = gw_compose(sheet, values, message, sizeof message);
     if (gw_number(answer) != 0) {
         return refuse("the message is", answer);

@@ -116,13 +116,29 @@ enum gw_attribute {
     GW_DELIVER_OPTION = 7
 };
 
+/* The values that IBM has names for. Of Forward and of Deliver exactly one bit is set; other bits may be set beside it. */
+enum gw_route {
+    GW_MQROUTE_DETAIL_LOW = 2,
+    GW_MQROUTE_DETAIL_MEDIUM = 8,
+    GW_MQROUTE_DETAIL_HIGH = 32,
+    GW_MQROUTE_UNLIMITED_ACTIVITIES = 0,
+    GW_MQROUTE_ACCUMULATE_NONE = 0x10003,
+    GW_MQROUTE_ACCUMULATE_IN_MSG = 0x10004,
+    GW_MQROUTE_ACCUMULATE_AND_REPLY = 0x10005,
+    GW_MQROUTE_FORWARD_ALL = 0x100,
+    GW_MQROUTE_FORWARD_IF_SUPPORTED = 0x200,
+    GW_MQROUTE_DELIVER_YES = 0x1000,
+    GW_MQROUTE_DELIVER_NO = 0x2000
+};
+
 /* A sheet has the identifiers of the eight attributes: eight different numbers from 1 to 2^31 - 1. These are IBM's. */
 #define GW_IBM_SHEET {1234, 1235, 1257, 1237, 1236, 1238, 1259, 1239}
 
 /* COMPOSE: refusals 17, 8, 12. Writes a trace-route message of 180 bytes to the start of the buffer and gives 180; what is
  * behind it stays.
  *
- *     const uint32_t values[8] = {2, 0, 0, 0, 5, 0x10004, 0x100, 0x1000};
+ *     const uint32_t values[8] = {GW_MQROUTE_DETAIL_LOW, 0, 0, 0, 5, GW_MQROUTE_ACCUMULATE_IN_MSG,
+ *                                 GW_MQROUTE_FORWARD_ALL, GW_MQROUTE_DELIVER_YES};
  *     length = gw_value(gw_compose(sheet, values, buffer, sizeof buffer));
  *     printf("%zu bytes\n", length); */
 gw_answer gw_compose(const uint32_t sheet[8], const uint32_t values[8], uint8_t *buffer, size_t size);

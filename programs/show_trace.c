@@ -17,12 +17,14 @@ static uint32_t number(size_t at)
 
 static const char *detail(uint32_t value)
 {
-    return value == 2 ? "low" : value == 8 ? "medium" : "high";
+    return value == GW_MQROUTE_DETAIL_LOW ? "low" : value == GW_MQROUTE_DETAIL_MEDIUM ? "medium" : "high";
 }
 
 static const char *accumulate(uint32_t value)
 {
-    return value == 0x10003 ? "nothing" : value == 0x10004 ? "in the message" : "in the message, and a reply is asked for";
+    return value == GW_MQROUTE_ACCUMULATE_NONE     ? "nothing"
+           : value == GW_MQROUTE_ACCUMULATE_IN_MSG ? "in the message"
+                                                   : "in the message, and a reply is asked for";
 }
 
 /* Two bits of which one is set, and options that not every queue manager knows. */
@@ -48,8 +50,8 @@ static void attributes(const uint32_t v[8])
         printf("%-21s %u, of which %llu used\n", "MaxActivities", (unsigned)v[GW_MAX_ACTIVITIES_LIMIT], (unsigned long long)used);
     }
     printf("%-21s %s\n", "Accumulate", accumulate(v[GW_ACCUMULATE]));
-    option("Forward", v[GW_FORWARD_OPTION], 0x100, "to every queue manager", "only to queue managers that know trace-route messages");
-    option("Deliver", v[GW_DELIVER_OPTION], 0x1000, "yes", "no");
+    option("Forward", v[GW_FORWARD_OPTION], GW_MQROUTE_FORWARD_ALL, "to every queue manager", "only to queue managers that know trace-route messages");
+    option("Deliver", v[GW_DELIVER_OPTION], GW_MQROUTE_DELIVER_YES, "yes", "no");
 }
 
 /* Text without trailing blanks; what is not printable is a dot. */

@@ -15,7 +15,8 @@ static void expect(bool holds, const char *what)
 }
 
 static const uint32_t sheet[8] = GW_IBM_SHEET;
-static const uint32_t values[8] = {2, 0, 0, 0, 2, 0x10005, 0x100, 0x2000};
+static const uint32_t values[8] = {GW_MQROUTE_DETAIL_LOW, 0, 0, 0, 2, GW_MQROUTE_ACCUMULATE_AND_REPLY, GW_MQROUTE_FORWARD_ALL,
+                                   GW_MQROUTE_DELIVER_NO};
 
 /* An Activity group of one string, 3012, "hop 1" and blanks. */
 static const uint8_t group[] = {

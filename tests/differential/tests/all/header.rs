@@ -60,8 +60,8 @@ fn declarations() {
     assert_eq!(declared, functions.count());
 }
 
-/// The rules' refusal numbers, the attributes in their order, IBM's sheet.
-const NUMBERS: [&str; 27] = [
+/// The rules' refusal numbers, the attributes in their order and their values, IBM's sheet.
+const NUMBERS: [&str; 38] = [
     "GW_ACCEPTED = 0,",
     "GW_BAD_LENGTH = 1,",
     "GW_BAD_HEADER = 2,",
@@ -88,6 +88,17 @@ const NUMBERS: [&str; 27] = [
     "GW_ACCUMULATE = 5,",
     "GW_FORWARD_OPTION = 6,",
     "GW_DELIVER_OPTION = 7 ",
+    "GW_MQROUTE_DETAIL_LOW = 2,",
+    "GW_MQROUTE_DETAIL_MEDIUM = 8,",
+    "GW_MQROUTE_DETAIL_HIGH = 32,",
+    "GW_MQROUTE_UNLIMITED_ACTIVITIES = 0,",
+    "GW_MQROUTE_ACCUMULATE_NONE = 0x10003,",
+    "GW_MQROUTE_ACCUMULATE_IN_MSG = 0x10004,",
+    "GW_MQROUTE_ACCUMULATE_AND_REPLY = 0x10005,",
+    "GW_MQROUTE_FORWARD_ALL = 0x100,",
+    "GW_MQROUTE_FORWARD_IF_SUPPORTED = 0x200,",
+    "GW_MQROUTE_DELIVER_YES = 0x1000,",
+    "GW_MQROUTE_DELIVER_NO = 0x2000 ",
     "#define GW_IBM_SHEET {1234, 1235, 1257, 1237, 1236, 1238, 1259, 1239}",
 ];
 
