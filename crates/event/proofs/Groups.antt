@@ -12,7 +12,7 @@ use Rattle.meaning.specs.Answer.{Result, accepted, refused}
 use Rattle.meaning.specs.Message.{partOf}
 use Rattle.meaning.specs.Walk.{Walked, walk}
 use Rattle.meaning.specs.Event.{lent, endsAt, groupOk}
-use Rattle.pcf.specs.Passings.{Passage, passage}
+use Rattle.walk.specs.Passings.{Passage, passage}
 
 -- where a walk ended
 abbrev pub endsIn : ℕ → Result Passage → Bool

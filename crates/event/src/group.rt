@@ -1,8 +1,8 @@
 // The lent Activity group.
-use pcf::Passed;
-use pcf::over;
 use structure::MQCFT_GROUP;
 use trace::MQGACF_ACTIVITY;
+use walk::Passed;
+use walk::over;
 use wire::number_at;
 ghost use mathlib.Core.Path.{_≡_};
 ghost use Rattle.meaning.specs.Event.{groupOk};

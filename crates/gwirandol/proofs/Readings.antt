@@ -6,10 +6,10 @@ use Rattle.meaning.specs.Answer.{Result, accepted, refused}
 use Rattle.meaning.specs.Trace.{read}
 use Rattle.answers.specs.Refusals.{numberOf, placeOf, refusal}
 use Rattle.answers.specs.declared.Refusal.{Refusal}
-use Rattle.trace.specs.Readings.{Reading, reading, given, valuesOf}
+use Rattle.reading.specs.Readings.{Reading, reading, given, valuesOf}
 use Rattle.trace.specs.declared.location.Answer.{Answer}
 use Rattle.trace.specs.declared.location.Answer.the-variants as told
-use Rattle.trace.specs.declared.reading.Values.{Values}
+use Rattle.reading.specs.declared.Values.{Values}
 use Rattle.attributes.specs.Terms.{termsOf}
 use Rattle.gwirandol.specs.Traces.{Reads}
 use Rattle.gwirandol.proofs.Reach.{read-small}

@@ -11,12 +11,12 @@ use Rattle.meaning.specs.Walk.{walked, walk}
 use Rattle.meaning.specs.Message.{partOf, closed, check, countsFrom, types}
 use Rattle.meaning.proofs.Walks.{walks}
 use Rattle.meaning.proofs.Tallies.{total-counts, walks-kinds}
-use Rattle.pcf.specs.Tallies.{tallied}
+use Rattle.walk.specs.Tallies.{tallied}
 use Rattle.pcf.specs.Messages.{opened, Tallies}
 use Rattle.pcf.specs.declared.message.Checked.the-variants.{Sound}
-use Rattle.pcf.proofs.Counting.{counted}
-use Rattle.pcf.proofs.Tallying.{came, told, halted}
-use Rattle.pcf.proofs.Numbering.{Past, past-rows}
+use Rattle.walk.proofs.Counting.{counted}
+use Rattle.walk.proofs.Counts.{came, told, halted}
+use Rattle.walk.proofs.Numbering.{Past, past-rows}
 use Rattle.pcf.proofs.Openings.{scan-opened}
 
 module _ (m : Part) (p d n : ℕ) where

@@ -1,18 +1,19 @@
 -- What comes before the structures, and the rows of a message by it.
-use mathlib.Core.Path.{_≡_, refl, sym, _∙_}
+use mathlib.Core.Path.{_≡_, refl, sym, ap, _∙_}
 use mathlib.Core.Bool.{Bool, true, false}
 use mathlib.Core.List.{List}
 use Prim.Native.Nat.{ℕ}
 use native.Mathlib.Omega.{arith}
 use Rattle.meaning.specs.Bytes.{number, num}
 use Rattle.meaning.specs.Names.{badLength, badHeader}
-use Rattle.meaning.specs.Answer.{accepted, refused, andThen}
+use Rattle.meaning.specs.Answer.{Result, accepted, refused, andThen}
 use Rattle.meaning.specs.Walk.{walk}
 use Rattle.meaning.specs.Message.{headerOk, partOf, lengthOk, closed, rowsOf, scan}
 use Rattle.meaning.proofs.Tests.{unless-accepted}
 use Rattle.meaning.proofs.Parts.{num-part}
 use Rattle.meaning.proofs.Scans.{Sized, sized, header-part}
-use Rattle.pcf.specs.Messages.{opened}
+use Rattle.pcf.specs.Messages.{opened, openedOf}
+use Rattle.pcf.specs.declared.message.Opening.{Opening}
 
 module _ (buf : List ℕ) (len : ℕ) where
   pub unsized : lengthOk buf len ≡ false → refused badLength 0 ≡ opened buf len
@@ -49,3 +50,7 @@ module _ (buf : List ℕ) (len : ℕ) where
       go false e h f = rw e refl
       go true e false f = rw (e, f) refl
       go true e true f = rw (e, f) refl
+
+-- what comes before the structures
+pub opened-as : {f g : Opening} {x : Result ℕ} → openedOf f ≡ x → f ≡ g → x ≡ openedOf g
+opened-as e h = sym e ∙ ap openedOf h

@@ -1,7 +1,5 @@
-// PCF messages: the walk over their structures, with counts and without, and whole messages.
+// Whole PCF messages: check, tally, and one structure at a time.
 mod message;
-mod passing;
-mod walk;
 
 pub use message::Checked;
 pub use message::Cursor;
@@ -14,6 +12,3 @@ pub use message::header_ok;
 pub use message::length_ok;
 pub use message::step;
 pub use message::tally;
-pub use passing::Passed;
-pub use passing::over;
-pub use walk::Ended;

@@ -1,13 +1,13 @@
 // Whole messages: check, tally, and the walk one structure at a time.
-use crate::passing::Passed;
-use crate::passing::over;
-use crate::walk::Ended;
-use crate::walk::siblings;
 use answers::Refusal;
 use structure::Found;
 use structure::Row;
 use structure::TWO_TO_31;
 use structure::structure_at;
+use walk::Ended;
+use walk::Passed;
+use walk::over;
+use walk::siblings;
 use wire::number_at;
 ghost use mathlib.Core.Path.{_≡_};
 ghost use mathlib.Core.List.{sum};

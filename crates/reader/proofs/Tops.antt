@@ -11,7 +11,7 @@ use Rattle.meaning.specs.Answer.{Result, accepted, refused, andThen}
 use Rattle.meaning.specs.Walk.{Walked, walk}
 use Rattle.meaning.specs.Message.{Stepped, partOf, lengthOk, step}
 use Rattle.meaning.proofs.Fuel.{walk-zero}
-use Rattle.pcf.specs.Passings.{Passage, passage}
+use Rattle.walk.specs.Passings.{Passage, passage}
 use Rattle.reader.specs.Reading.{start, standing, nthTop}
 
 module _ (msg : List ℕ) where

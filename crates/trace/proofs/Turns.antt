@@ -13,7 +13,7 @@ use Rattle.meaning.proofs.Walks.{walks, walks-le}
 use Rattle.meaning.proofs.Fuel.{walk-zero}
 use Rattle.structure.specs.Rows.{rowOf}
 use Rattle.pcf.specs.Messages.{steppedOf}
-use Rattle.pcf.proofs.Turns.{unfolded, walk-on}
+use Rattle.walk.proofs.Turns.{unfolded, walk-on}
 use Rattle.answers.specs.declared.Refusal.{Refusal}
 use Rattle.answers.specs.Refusals.{refusal}
 use Rattle.structure.specs.declared.structure.Row.{Row as Found·Row}

@@ -10,7 +10,7 @@ use Rattle.meaning.specs.Structure.{Row}
 use Rattle.meaning.specs.Walk.{Walked}
 use Rattle.meaning.specs.Trace.{Top, groups}
 use Rattle.meaning.specs.Activity.{sizeOf, noGroup}
-use Rattle.pcf.specs.Tallies.{endedOf}
+use Rattle.walk.specs.Tallies.{endedOf}
 use Rattle.trace.specs.declared.groups.Group.{Group}
 use Rattle.trace.specs.declared.groups.Counted.{Counted}
 use Rattle.trace.specs.declared.groups.Tops.{Tops}

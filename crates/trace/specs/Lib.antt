@@ -2,4 +2,3 @@ pub mod Passing
 pub mod Groups
 pub mod Marks
 pub mod Locations
-pub mod Readings

@@ -2,10 +2,10 @@
 use crate::passing::pass;
 use answers::Refusal;
 use compose::MQGACF_TRACE_ROUTE;
-use pcf::Ended;
 use pcf::Stepped;
 use structure::MQCFT_GROUP;
 use structure::Row;
+use walk::Ended;
 ghost use mathlib.Core.Path.{_≡_};
 ghost use Prim.Native.Nat.{_+_, _≤_, _<_};
 ghost use lib.ListN.{length};

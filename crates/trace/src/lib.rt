@@ -1,9 +1,8 @@
-// Trace-route messages: the header, the TraceRoute group and its eight attributes, Read, and the decisions about a message.
+// Trace-route messages: the header, the TraceRoute group, and where its eight attributes and the Activity groups are.
 mod groups;
 mod location;
 mod members;
 mod passing;
-mod reading;
 
 pub use groups::Group;
 pub use groups::MQGACF_ACTIVITY;
@@ -13,7 +12,3 @@ pub use location::Traced;
 pub use location::locate;
 pub use location::trace_of;
 pub use passing::behind;
-pub use reading::Values;
-pub use reading::arrive;
-pub use reading::forward;
-pub use reading::read;

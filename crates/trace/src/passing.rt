@@ -1,11 +1,11 @@
 // Passing over a structure with all that is inside it.
-use pcf::Passed;
 use pcf::Stepped;
-use pcf::over;
 use structure::Extent;
 use structure::MQCFT_GROUP;
 use structure::Row;
 use structure::extent_at;
+use walk::Passed;
+use walk::over;
 use wire::number_at;
 ghost use mathlib.Core.Path.{_≡_};
 ghost use Prim.Native.Nat.{_≤_};

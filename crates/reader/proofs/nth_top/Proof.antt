@@ -2,7 +2,7 @@
 use mathlib.Core.Path.{_∙_}
 use native.Mathlib.Omega.{arith}
 use borrow.Author.Needs.{needs}
-use Rattle.pcf.proofs.Answers.{passed-as}
+use Rattle.walk.proofs.Answers.{passed-as}
 use Rattle.reader.proofs.Tops.{too-short, too-long, by-walk}
 use Rattle.reader.proofs.nth_top.Statement.{statement}
 use Rattle.reader.proofs.nth_top.Tie as tie

@@ -2,7 +2,7 @@
 use mathlib.Core.Path.{sym, _∙_}
 use native.Mathlib.Omega.{arith}
 use borrow.Author.Needs.{needs}
-use Rattle.pcf.proofs.Answers.{passed-as}
+use Rattle.walk.proofs.Answers.{passed-as}
 use Rattle.event.proofs.Groups.{too-short, too-long, no-group, no-activity, by-walk}
 use Rattle.event.proofs.group.group_ok.Statement.{statement}
 use Rattle.event.proofs.group.group_ok.Tie as tie

@@ -5,9 +5,10 @@ use denote.Ref.{now}
 use Rattle.meaning.specs.Answer.{accepted}
 use Rattle.meaning.specs.Message.{partOf}
 use Rattle.pcf.specs.Messages.{opened}
-use Rattle.pcf.proofs.Answers.{opened-as, passed-as}
+use Rattle.pcf.proofs.Openings.{opened-as}
+use Rattle.walk.proofs.Answers.{passed-as}
 use Rattle.pcf.proofs.Openings.{opened-sized}
-use Rattle.pcf.proofs.Numbering.{Past, past, past-fault}
+use Rattle.walk.proofs.Numbering.{Past, past, past-fault}
 use Rattle.pcf.proofs.Closes.{check-shut, check-fault, check-end, check-long}
 use Rattle.pcf.proofs.message.check.Statement.{statement}
 use Rattle.pcf.proofs.message.check.Tie as tie

@@ -3,8 +3,8 @@ use native.Mathlib.Omega.{arith}
 use borrow.Author.Needs.{needs}
 use denote.Ref.{now}
 use Rattle.meaning.specs.Message.{partOf}
-use Rattle.pcf.proofs.Answers.{ended-as}
-use Rattle.pcf.proofs.Counting.{zeros-low}
+use Rattle.walk.proofs.Answers.{ended-as}
+use Rattle.walk.proofs.Counting.{zeros-low}
 use Rattle.pcf.proofs.Closes.{Counted, counted-rows, counted-end, closed-long, closed-fault}
 use Rattle.pcf.proofs.message.structures.Statement.{statement}
 use Rattle.pcf.proofs.message.structures.Tie as tie

@@ -8,7 +8,7 @@ use Rattle.meaning.specs.Message.{scan, check, tally}
 use Rattle.meaning.specs.Answer.{accepted}
 use Rattle.pcf.specs.Messages.{opened, Tallies, TalliedAs}
 use Rattle.pcf.specs.declared.message.Tallied.{Tallied}
-use Rattle.pcf.proofs.Answers.{opened-as}
+use Rattle.pcf.proofs.Openings.{opened-as}
 use Rattle.pcf.proofs.Openings.{opened-sized, scan-opened}
 use Rattle.pcf.proofs.message.tally.Statement.{statement}
 use Rattle.pcf.proofs.message.tally.Tie as tie

@@ -7,7 +7,7 @@ use denote.Ref.{now}
 use Rattle.meaning.specs.Message.{partOf, headerOk, lengthOk}
 use Rattle.meaning.specs.Trace.{sheetOk}
 use Rattle.meaning.proofs.Scans.{sized, header-part, scan-unsized, scan-unheaded}
-use Rattle.pcf.specs.Tallies.{endedOf}
+use Rattle.walk.specs.Tallies.{endedOf}
 use Rattle.attributes.specs.Terms.{termsOf}
 use Rattle.trace.specs.Groups.{surveyOf}
 use Rattle.trace.proofs.Locating.{trace-unsheeted, trace-unscanned, Begun, trace-halt, trace-left, trace-whole, route-within}

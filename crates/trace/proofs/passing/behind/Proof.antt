@@ -3,8 +3,8 @@ use Prim.Native.Nat.{_+_, _≤_}
 use native.Mathlib.Omega.{arith}
 use borrow.Author.Needs.{needs}
 use denote.Ref.{now}
-use Rattle.pcf.proofs.Answers.{passed-as}
-use Rattle.pcf.proofs.Numbering.{past, past-fault}
+use Rattle.walk.proofs.Answers.{passed-as}
+use Rattle.walk.proofs.Numbering.{past, past-fault}
 use Rattle.trace.proofs.Skipping.{known-room, known-fits, Seen, behind-plain, behind-shallow, behind-never, behind-group}
 use Rattle.trace.proofs.passing.behind.Statement.{statement}
 use Rattle.trace.proofs.passing.behind.Tie as tie

@@ -7,9 +7,9 @@ use denote.Ref.{now}
 use Rattle.meaning.specs.Answer.{accepted}
 use Rattle.meaning.specs.Structure.{structureAt}
 use Rattle.meaning.specs.Message.{partOf}
-use Rattle.pcf.proofs.Answers.{passed-as}
+use Rattle.walk.proofs.Answers.{passed-as}
 use Rattle.structure.proofs.Extents.{Reaches, reaches, reaches-none, reach-fits, reach-least, reach-shallow, reach-row}
-use Rattle.pcf.proofs.Numbering.{past, past-fault}
+use Rattle.walk.proofs.Numbering.{past, past-fault}
 use Rattle.trace.proofs.Turns.{pass-refused, pass-halt, pass-over, pass-plain}
 use Rattle.trace.proofs.passing.pass.Statement.{statement}
 use Rattle.trace.proofs.passing.pass.Tie as tie
