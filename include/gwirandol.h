@@ -71,7 +71,7 @@ enum gw_feedbacks {
 static inline const char *gw_in_words(uint32_t number)
 {
     switch (number) {
-    case GW_BAD_LENGTH: return "fewer than 36 bytes, or more than 65,536";
+    case GW_BAD_LENGTH: return "fewer than 36 bytes, or more than 65,536 or than the buffer has";
     case GW_BAD_HEADER: return "the header is not sound";
     case GW_BAD_STRUCTURE: return "a structure is not sound: its type, length or count, or it goes past the end";
     case GW_TOO_DEEP: return "a group is deeper than 8";
