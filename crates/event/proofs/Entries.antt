@@ -37,14 +37,6 @@ module _ (tm : Terms) (st : State) (e : Event) (t : Trace) (r : readTrace tm (st
   event-unsound u = rw (r, u) refl
 
   module _ (ok : soundEvent e ≡ true) where
-    pub event-denied : (n p : ℕ) (o : Bool) → decided st e (t .values) ≡ denied n p o → event tm st e ≡ record { answer = denied n p o; next = st }
-    unfolding event onTrace
-    event-denied n p o d = rw (r, ok) (ap (leaving st (performed st e t)) d)
-
-    pub event-done : (x : Done) → decided st e (t .values) ≡ done x → event tm st e ≡ record { answer = done x; next = performed st e t }
-    unfolding event onTrace
-    event-done x d = rw (r, ok) (ap (leaving st (performed st e t)) d)
-
     -- WHAT IS DONE, with the counter's value as it was read
     module _ (x : Done) (d : decided st e (t .values) ≡ done x) where
       abbrev plan : Plan

@@ -1,8 +1,8 @@
 -- An event for C: its answer fits, and is told with what is left.
 use mathlib.Core.Path.{_≡_, refl, sym, ap, _∙_, subst}
 use mathlib.Core.Bool.{Bool, true, false, cond, not, _&&_}
-use mathlib.Core.List.{List, [], _∷_}
-use Prim.Native.Nat.{ℕ, _+_, _*_, _≤_}
+use mathlib.Core.List.{List}
+use Prim.Native.Nat.{ℕ, _+_, _≤_}
 use native.Mathlib.Omega.{arith}
 use lib.Dec.{leb, eqb}
 use borrow.Author.Tests.{leb-true}
@@ -13,15 +13,11 @@ use Rattle.meaning.specs.Event.{Level as Rank, Event, activity, Answer, done, d
 use Rattle.meaning.proofs.Tests.{clash}
 use Rattle.meaning.proofs.Sound.{sound}
 use Rattle.meaning.proofs.Outcomes.{read-refused}
-use Rattle.answers.specs.Refusals.{numberOf, placeOf, owed}
-use Rattle.answers.specs.declared.Refusal.{Refusal}
-use Rattle.verdict.specs.Plans.{answerOf, counterOf, levelOf, activityOf, settingsOf}
+use Rattle.verdict.specs.Plans.{answerOf, levelOf, activityOf, settingsOf}
 use Rattle.event.specs.Events.{outcome}
 use Rattle.verdict.specs.declared.plan.Level.{Level}
 use Rattle.verdict.specs.declared.plan.Settings.{Settings}
-use Rattle.verdict.specs.declared.answer.Done.{Done}
 use Rattle.verdict.specs.declared.answer.Answer.{Answer as Said}
-use Rattle.verdict.specs.declared.answer.Answer.the-variants as answer
 use Rattle.attributes.specs.Terms.{termsOf}
 use Rattle.codes.specs.Events.{levelIn, Brief, Tells}
 use Rattle.gwirandol.specs.Events.{activityIn, Applies}

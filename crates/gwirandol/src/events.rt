@@ -2,7 +2,6 @@
 use codes::level_of;
 use codes::told;
 use verdict::Settings;
-ghost use mathlib.Core.Path.{_≡_};
 ghost use mathlib.Core.List.{[]};
 ghost use Rattle.meaning.specs.Event.{discontinuity};
 ghost use Rattle.event.specs.Events.{state};
