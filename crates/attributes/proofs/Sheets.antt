@@ -1,11 +1,11 @@
 -- One number of a sheet after the other.
 use mathlib.Core.Path.{_≡_, refl, sym, ap, _∙_}
-use mathlib.Core.Bool.{true, false, _&&_}
+use mathlib.Core.Bool.{Bool, true, false, not, _&&_}
 use mathlib.Core.List.{List}
 use Prim.Native.Nat.{ℕ, _+_, _≤_, _<_}
 use lib.ListN.{length, getD, drop}
-use lib.Dec.{leb}
-use borrow.Author.Tests.{eq-eqb, ne-eqb}
+use lib.Dec.{leb, eqb}
+use borrow.Author.Tests.{eq-eqb}
 use Rattle.meaning.specs.Structure.{small}
 use Rattle.meaning.specs.Trace.{absent, different, sheetOk}
 use Rattle.attributes.proofs.Lists.{rest-none, rest-next}
@@ -14,21 +14,17 @@ pub absent-none : (x : ℕ) (l : List ℕ) (k : ℕ) → length l ≤ k → abse
 unfolding absent
 absent-none x l k h = ap (absent x) (rest-none l k h)
 
-module _ (x : ℕ) (l : List ℕ) (k : ℕ) (h : k < length l) where
-  pub absent-hit : getD l k 0 ≡ x → absent x (drop k l) ≡ false
-  unfolding absent
-  absent-hit e = ap (absent x) (rest-next l k h) ∙ rw (eq-eqb x (getD l k 0) (sym e)) refl
-
-  pub absent-next : (getD l k 0 ≡ x → ⊥) → absent x (drop k l) ≡ absent x (drop (k + 1) l)
-  unfolding absent
-  absent-next n = ap (absent x) (rest-next l k h) ∙ rw (ne-eqb x (getD l k 0) (λ e. n (sym e))) refl
+-- the test of one number, and then those of the rest
+pub absent-next : (x : ℕ) (l : List ℕ) (k : ℕ) → k < length l → absent x (drop k l) ≡ (not (eqb x (getD l k 0)) && absent x (drop (k + 1) l))
+unfolding absent
+absent-next x l k h = ap (absent x) (rest-next l k h)
 
 pub different-none : (l : List ℕ) (k : ℕ) → length l ≤ k → different (drop k l) ≡ true
 unfolding different
 different-none l k h = ap different (rest-none l k h)
 
 -- the tests of one number, and then those of the rest
-pub different-next : (l : List ℕ) (k : ℕ) → k < length l
+different-next : (l : List ℕ) (k : ℕ) → k < length l
     → different (drop k l) ≡ (leb 1 (getD l k 0) && (small (getD l k 0) && (absent (getD l k 0) (drop (k + 1) l) && different (drop (k + 1) l))))
 unfolding different
 different-next l k h = ap different (rest-next l k h)
@@ -36,3 +32,24 @@ different-next l k h = ap different (rest-next l k h)
 pub sheet-ok-as : (l : List ℕ) → length l ≡ 8 → sheetOk l ≡ different (drop 0 l)
 unfolding sheetOk
 sheet-ok-as l h = rw (eq-eqb (length l) 8 h) refl
+
+-- what is known so far, and one test more
+pub further : (a b c : Bool) → a && (b && c) ≡ (a && b) && c
+further true b c = refl
+further false b c = refl
+
+further-three : (a b c d e : Bool) → a && (b && (c && (d && e))) ≡ (a && (b && (c && d))) && e
+further-three true true true d e = refl
+further-three true true false d e = refl
+further-three true false c d e = refl
+further-three false b c d e = refl
+
+pub different-further : (a : Bool) (l : List ℕ) (k : ℕ) (b : Bool) → k < length l → b ≡ absent (getD l k 0) (drop (k + 1) l)
+    → (a && different (drop k l)) ≡ ((a && (leb 1 (getD l k 0) && (small (getD l k 0) && b))) && different (drop (k + 1) l))
+different-further a l k b h e =
+    ap (λ (t : Bool). a && t) (different-next l k h)
+    ∙ rw (sym e) (further-three a (leb 1 (getD l k 0)) (small (getD l k 0)) b (different (drop (k + 1) l)))
+
+pub no-further : (a : Bool) → a && true ≡ a
+no-further true = refl
+no-further false = refl

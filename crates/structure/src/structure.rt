@@ -1,4 +1,5 @@
 // One structure of a message.
+use crate::table::TWO_TO_31;
 use crate::table::length_kept;
 use crate::table::rule_of;
 use answers::Refusal;
@@ -8,7 +9,7 @@ ghost use mathlib.Core.Bool.{cond, not, _&&_};
 ghost use Prim.Native.Nat.{_+_, _≤_};
 ghost use lib.Dec.{eqb, ltb};
 ghost use lib.ListN.{length};
-ghost use Rattle.meaning.specs.Names.{«MQCFT_GROUP», mostDepth};
+ghost use Rattle.meaning.specs.Names.{«MQCFT_GROUP», mostDepth, twoTo31};
 ghost use Rattle.meaning.specs.Structure.{judged, structureAt};
 ghost use Rattle.meaning.specs.Message.{partOf};
 ghost use Rattle.structure.specs.Rules.{Fields};
@@ -19,6 +20,9 @@ pub const MQCFT_GROUP: u32 = 20;
 
 // The type of an integer parameter.
 pub const MQCFT_INTEGER: u32 = 3;
+
+// The length of an integer, and of a group without its members.
+const PLAIN: u32 = 16;
 
 // No group is deeper.
 const MOST_DEPTH: u32 = 8;
@@ -121,8 +125,16 @@ pub fn structure_at(s: &[u8], end: usize, place: usize, depth: u32) -> Found
     verdict(unsound, too_deep(kind, depth), row)
 }
 
+// A group keeps the table's rule with its length and its count.
+fn is_group(size: u32, first: u32) -> bool
+    ensures { λ r. ⌜ r ≡ (eqb size 16 && ltb first twoTo31) ⌝ }
+{
+    (size == PLAIN) & (first < TWO_TO_31)
+}
+
 // The same without the row, for those who only pass over it. A walk asks this of each structure that it meets, so it is kept
-// small enough to be compiled into the walk.
+// small enough to be compiled into the walk. Integers and groups, which most structures are, are judged at once, and how far
+// they reach is not read but known, so that the walk does not wait for it; all else goes by the table.
 pub fn extent_at(s: &[u8], end: usize, place: usize, depth: u32) -> Extent
     requires { ⌜ end ≤ length (now s) ⌝ }
     ensures { λ r. ⌜ extentOf r ≡ reachOf (structureAt (partOf (now (s .entry)) end) place depth) ⌝ }
@@ -132,12 +144,24 @@ pub fn extent_at(s: &[u8], end: usize, place: usize, depth: u32) -> Extent
     }
     let kind = number_at(s, place);
     let size = number_at(s, place + 4);
-    let first = number_at(s, place + 12);
-    if !is_sound(s, end, place, kind, size, first) {
+    if kind == MQCFT_INTEGER {
+        if size == PLAIN {
+            return Extent::Sound(PLAIN, 0);
+        }
         return Extent::Refused(Refusal::BadStructure(place));
     }
-    if too_deep(kind, depth) {
-        return Extent::Refused(Refusal::TooDeep(place));
+    let first = number_at(s, place + 12);
+    if kind == MQCFT_GROUP {
+        if is_group(size, first) {
+            if MOST_DEPTH < depth {
+                return Extent::Refused(Refusal::TooDeep(place));
+            }
+            return Extent::Sound(PLAIN, first);
+        }
+        return Extent::Refused(Refusal::BadStructure(place));
     }
-    Extent::Sound(size, members_of(kind, first))
+    if is_sound(s, end, place, kind, size, first) {
+        return Extent::Sound(size, 0);
+    }
+    Extent::Refused(Refusal::BadStructure(place))
 }

@@ -1,8 +1,10 @@
 // Numbers in bytes, and bytes over bytes: all reading and writing of a buffer goes through these three functions.
 ghost use mathlib.Core.Path.{_≡_};
-ghost use Prim.Native.Nat.{_+_, _≤_, _<_};
-ghost use lib.ListN.{length};
+ghost use mathlib.Core.List.{_∷_, []};
+ghost use Prim.Native.Nat.{_+_, _≤_, _<_, _/_, _%_};
+ghost use lib.ListN.{length, getD};
 ghost use Rattle.meaning.specs.Bytes.{number, bytes4, splice};
+ghost use Rattle.wire.specs.Digits.{Digits};
 
 fn wide(x: u8) -> u32
     ensures { λ r. ⌜ (r ≡ x) × (r < 256) ⌝ }
@@ -10,12 +12,39 @@ fn wide(x: u8) -> u32
     x as u32
 }
 
+// The four bytes at `at` as a number, least significant first. The compiler makes one read of a whole word of this sum, and
+// not of the same sum with the most significant byte first.
+fn four_at(s: &[u8], at: usize) -> u32
+    requires { ⌜ at + 4 ≤ length (now s) ⌝ }
+    ensures { λ r. ⌜ Digits r (getD (now (s .entry)) at 0) (getD (now (s .entry)) (at + 1) 0) (getD (now (s .entry)) (at + 2) 0) (getD (now (s .entry)) (at + 3) 0) ⌝ }
+{
+    wide(s[at]) + wide(s[at + 1]) * 256 + wide(s[at + 2]) * 65536 + wide(s[at + 3]) * 16777216
+}
+
+// The number whose four bytes are those of `x` the other way round: one instruction, once it is compiled.
+fn turned(x: u32) -> u32
+    ensures { λ r. ⌜ Digits r (x / 16777216 % 256) (x / 65536 % 256) (x / 256 % 256) (x % 256) ⌝ }
+{
+    x % 256 * 16777216 + x / 256 % 256 * 65536 + x / 65536 % 256 * 256 + x / 16777216
+}
+
 // The number in the four bytes at `at`, most significant first: the one reader of numbers.
 pub fn number_at(s: &[u8], at: usize) -> u32
     requires { ⌜ at + 4 ≤ length (now s) ⌝ }
     ensures { λ r. ⌜ r ≡ number (now (s .entry)) at ⌝ }
 {
-    wide(s[at]) * 16777216 + wide(s[at + 1]) * 65536 + wide(s[at + 2]) * 256 + wide(s[at + 3])
+    turned(four_at(s, at))
+}
+
+// Writes the four bytes of a number at `at`, least significant first: one write of a whole word.
+fn put_four(s: &mut [u8], at: usize, v: u32)
+    requires { ⌜ at + 4 ≤ length (now s) ⌝ }
+    ensures { λ _. ⌜ now (s .exit) ≡ splice (now (s .entry)) at (v % 256 ∷ v / 256 % 256 ∷ v / 65536 % 256 ∷ v / 16777216 % 256 ∷ []) ⌝ }
+{
+    s[at] = (v % 256) as u8;
+    s[at + 1] = (v / 256 % 256) as u8;
+    s[at + 2] = (v / 65536 % 256) as u8;
+    s[at + 3] = (v / 16777216 % 256) as u8;
 }
 
 // Writes the four bytes of a number at `at`, most significant first.
@@ -23,10 +52,7 @@ pub fn put_number(s: &mut [u8], at: usize, v: u32)
     requires { ⌜ at + 4 ≤ length (now s) ⌝ }
     ensures { λ _. ⌜ now (s .exit) ≡ splice (now (s .entry)) at (bytes4 v) ⌝ }
 {
-    s[at] = (v / 16777216 % 256) as u8;
-    s[at + 1] = (v / 65536 % 256) as u8;
-    s[at + 2] = (v / 256 % 256) as u8;
-    s[at + 3] = (v % 256) as u8;
+    put_four(s, at, turned(v));
 }
 
 // Copies all of `from` to the start of `to`; what is behind stays. A caller that writes further on lends the part of its
