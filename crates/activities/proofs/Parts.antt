@@ -17,7 +17,7 @@ use Rattle.trace.specs.Groups.{groupOf, counted}
 use Rattle.trace.specs.Locations.{traced}
 use Rattle.trace.proofs.Locating.{nth-at}
 use Rattle.activities.specs.Spans.{spanIn}
-use Rattle.activities.specs.declared.group.Span.{Span as Parts}
+use Rattle.activities.specs.declared.group.Span.{Span as Handed}
 
 -- THE ACTIVITY GROUP that goes with the trace
 pub activity-traced : (n : ℕ) (r : Result Trace) → record { place = traced n r .activity .place; length = traced n r .activity .length } ≡ spanOf (nthActivity r n)
@@ -46,7 +46,7 @@ activity-in tm buf len n = go (readTrace tm buf len) refl
     go (refused k p) e = omega arith
 
 -- the part of the message that a span is
-module _ (buf : List ℕ) (s : Parts) (x : Span) (e : spanIn s ≡ x) where
+module _ (buf : List ℕ) (s : Handed) (x : Span) (e : spanIn s ≡ x) where
   pub span-end : x .place + x .length ≤ length buf → s .place + s .length ≤ length buf
   span-end h = omega (arith, ap (λ (y : Span). y .place) e, ap (λ (y : Span). y .length) e)
 

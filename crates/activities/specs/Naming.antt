@@ -9,7 +9,7 @@ use Rattle.meaning.specs.Structure.{Row}
 use Rattle.meaning.specs.Walk.{Walked}
 use Rattle.meaning.specs.Trace.{directIn, named}
 use Rattle.meaning.specs.Activity.{Name, inMessage, substitute, strings, stringAt}
-use Rattle.activities.specs.Spans.{spanIn, PartOf}
+use Rattle.activities.specs.Spans.{spanIn, SliceAt}
 use Rattle.activities.specs.declared.names.Named.{Named}
 use Rattle.activities.specs.declared.names.Named.the-variants.{InMessage, Substitute}
 
@@ -29,5 +29,5 @@ stringIn m id (refused k p) = substitute
 
 -- r is the part of the lent msg that the name is, or the lent substitute itself
 abbrev pub Gives : RefT (List ℕ) → RefT (List ℕ) → Name → RefT (List ℕ) → Type 0
-Gives msg other (inMessage s) r = PartOf msg s r
+Gives msg other (inMessage s) r = SliceAt msg s r
 Gives msg other substitute r = r ≡ other

@@ -3,7 +3,7 @@ use trace::trace_of;
 ghost use mathlib.Core.Path.{_≡_};
 ghost use Rattle.meaning.specs.Activity.{activityGroup};
 ghost use Rattle.attributes.specs.Terms.{termsOf};
-ghost use Rattle.activities.specs.Spans.{spanIn, PartOf};
+ghost use Rattle.activities.specs.Spans.{spanIn, SliceAt};
 
 // A part of the message: where it starts, and how many bytes it has.
 pub struct Span {
@@ -26,7 +26,7 @@ pub fn activity_span(msg: &[u8], len: usize, sheet: [u32; 8], n: usize) -> Span
 
 // THE N-TH ACTIVITY GROUP: the caller's own bytes.
 pub fn activity_group(msg: &[u8], len: usize, sheet: [u32; 8], n: usize) -> &[u8]
-    ensures { λ r. ⌜ PartOf (msg .entry) (activityGroup (termsOf sheet) (now (msg .entry)) len n) r ⌝ }
+    ensures { λ r. ⌜ SliceAt (msg .entry) (activityGroup (termsOf sheet) (now (msg .entry)) len n) r ⌝ }
 {
     let span = activity_span(msg, len, sheet, n);
     let from = span.place;

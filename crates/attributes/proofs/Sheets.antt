@@ -7,7 +7,7 @@ use lib.ListN.{length, getD, drop}
 use lib.Dec.{leb, eqb}
 use borrow.Author.Tests.{eq-eqb}
 use Rattle.meaning.specs.Structure.{small}
-use Rattle.meaning.specs.Trace.{absent, different, sheetOk}
+use Rattle.meaning.specs.Trace.{absent, identifiersOk, sheetOk}
 use Rattle.attributes.proofs.Lists.{rest-none, rest-next}
 
 pub absent-none : (x : ℕ) (l : List ℕ) (k : ℕ) → length l ≤ k → absent x (drop k l) ≡ true
@@ -19,17 +19,17 @@ pub absent-next : (x : ℕ) (l : List ℕ) (k : ℕ) → k < length l → absent
 unfolding absent
 absent-next x l k h = ap (absent x) (rest-next l k h)
 
-pub different-none : (l : List ℕ) (k : ℕ) → length l ≤ k → different (drop k l) ≡ true
-unfolding different
-different-none l k h = ap different (rest-none l k h)
+pub identifiers-none : (l : List ℕ) (k : ℕ) → length l ≤ k → identifiersOk (drop k l) ≡ true
+unfolding identifiersOk
+identifiers-none l k h = ap identifiersOk (rest-none l k h)
 
 -- the tests of one number, and then those of the rest
-different-next : (l : List ℕ) (k : ℕ) → k < length l
-    → different (drop k l) ≡ (leb 1 (getD l k 0) && (small (getD l k 0) && (absent (getD l k 0) (drop (k + 1) l) && different (drop (k + 1) l))))
-unfolding different
-different-next l k h = ap different (rest-next l k h)
+identifiers-next : (l : List ℕ) (k : ℕ) → k < length l
+    → identifiersOk (drop k l) ≡ (leb 1 (getD l k 0) && (small (getD l k 0) && (absent (getD l k 0) (drop (k + 1) l) && identifiersOk (drop (k + 1) l))))
+unfolding identifiersOk
+identifiers-next l k h = ap identifiersOk (rest-next l k h)
 
-pub sheet-ok-as : (l : List ℕ) → length l ≡ 8 → sheetOk l ≡ different (drop 0 l)
+pub sheet-ok-as : (l : List ℕ) → length l ≡ 8 → sheetOk l ≡ identifiersOk (drop 0 l)
 unfolding sheetOk
 sheet-ok-as l h = rw (eq-eqb (length l) 8 h) refl
 
@@ -44,11 +44,11 @@ further-three true true false d e = refl
 further-three true false c d e = refl
 further-three false b c d e = refl
 
-pub different-further : (a : Bool) (l : List ℕ) (k : ℕ) (b : Bool) → k < length l → b ≡ absent (getD l k 0) (drop (k + 1) l)
-    → (a && different (drop k l)) ≡ ((a && (leb 1 (getD l k 0) && (small (getD l k 0) && b))) && different (drop (k + 1) l))
-different-further a l k b h e =
-    ap (λ (t : Bool). a && t) (different-next l k h)
-    ∙ rw (sym e) (further-three a (leb 1 (getD l k 0)) (small (getD l k 0)) b (different (drop (k + 1) l)))
+pub identifiers-further : (a : Bool) (l : List ℕ) (k : ℕ) (b : Bool) → k < length l → b ≡ absent (getD l k 0) (drop (k + 1) l)
+    → (a && identifiersOk (drop k l)) ≡ ((a && (leb 1 (getD l k 0) && (small (getD l k 0) && b))) && identifiersOk (drop (k + 1) l))
+identifiers-further a l k b h e =
+    ap (λ (t : Bool). a && t) (identifiers-next l k h)
+    ∙ rw (sym e) (further-three a (leb 1 (getD l k 0)) (small (getD l k 0)) b (identifiersOk (drop (k + 1) l)))
 
 pub no-further : (a : Bool) → a && true ≡ a
 no-further true = refl

@@ -1,7 +1,7 @@
 -- A decision as the code hands it out, in the meaning's terms.
 use Rattle.meaning.specs.Answer.{Result, accepted}
 use Rattle.meaning.specs.Decision.{Decision as Meant, forward, putLocally, withhold}
-use Rattle.answers.specs.Refusals.{refusal}
+use Rattle.refusals.specs.Refusals.{refusal}
 use Rattle.attributes.specs.declared.decisions.Decision.{Decision}
 use Rattle.attributes.specs.declared.decisions.Decision.the-variants.{Forward, PutLocally, Withhold}
 use Rattle.attributes.specs.declared.decisions.Judged.{Judged}

@@ -5,7 +5,7 @@ use crate::names::MQROUTE_DELIVER_YES;
 use crate::names::MQROUTE_FORWARD_IF_SUPPORTED;
 use crate::names::REJECT_UNSUPPORTED;
 use crate::ranges::any_bit;
-use answers::Refusal;
+use refusals::Refusal;
 ghost use mathlib.Core.Path.{_≡_};
 ghost use Rattle.meaning.specs.Decision.{forwardBy, arriveBy};
 ghost use Rattle.attributes.specs.Decisions.{judgedOf};

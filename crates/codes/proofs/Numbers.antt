@@ -4,10 +4,10 @@ use mathlib.Core.Bool.{Bool, true, false, cond}
 use mathlib.Core.List.{List, [], _∷_}
 use Prim.Native.Nat.{ℕ, _+_, _*_, _≤_, _<_}
 use native.Mathlib.Omega.{arith}
-use Rattle.answers.specs.Refusals.{numberOf, placeOf, owed}
-use Rattle.answers.specs.declared.Refusal.{Refusal}
-use Rattle.answers.specs.declared.Refusal.the-variants.{BadLength, BadHeader, BadStructure, TooDeep, LeftOver, NoTraceHeader, NoTraceRoute, BadAttribute, BadGroup, MaxActivities, CounterFull, NoRoom, ReportTooShort, UnsupportedDelivery, UnsupportedForwarding, NotForwarded, BadSheet}
-use Rattle.attributes.specs.Decisions.{judgedOf}
+use Rattle.refusals.specs.Refusals.{numberOf, placeOf, owed}
+use Rattle.refusals.specs.declared.Refusal.{Refusal}
+use Rattle.refusals.specs.declared.Refusal.the-variants.{BadLength, BadHeader, BadStructure, TooDeep, LeftOver, NoTraceHeader, NoTraceRoute, BadAttribute, BadGroup, MaxActivities, CounterFull, NoRoom, ReportTooShort, UnsupportedDelivery, UnsupportedForwarding, NotForwarded, BadSheet}
+use Rattle.attributes.specs.Decisions.{decisionOf, judgedOf}
 use Rattle.attributes.specs.declared.decisions.Decision.{Decision as Decided}
 use Rattle.attributes.specs.declared.decisions.Decision.the-variants.{Forward, PutLocally, Withhold}
 use Rattle.attributes.specs.declared.decisions.Judged.the-variants.{Decided as Decides}
@@ -16,7 +16,7 @@ use Rattle.verdict.specs.declared.answer.Done.{Done}
 use Rattle.verdict.specs.declared.answer.Answer.{Answer as Said}
 use Rattle.verdict.specs.declared.answer.Answer.the-variants as answer
 use Rattle.codes.specs.Codes.{code}
-use Rattle.codes.specs.Decisions.{decided, decisionOf}
+use Rattle.codes.specs.Decisions.{decisionNumber, decided}
 use Rattle.codes.specs.Events.{Tells}
 
 -- a refusal's number is below 32: number and place can be told from the answer
@@ -40,20 +40,15 @@ number-below NotForwarded = omega arith
 number-below BadSheet = omega arith
 
 -- decisions are small
-pub decision-small : (d : Decided) → decisionOf d ≤ 3
+pub decision-small : (d : Decided) → decisionNumber (decisionOf d) ≤ 3
 decision-small Forward = omega arith
 decision-small PutLocally = omega arith
 decision-small Withhold = omega arith
 
-pub decision-code : (n : ℕ) (d : Decided) → n ≡ decisionOf d → n * 32 ≡ code (decided (judgedOf (Decides d)))
+pub decision-code : (n : ℕ) (d : Decided) → n ≡ decisionNumber (decisionOf d) → n * 32 ≡ code (decided (judgedOf (Decides d)))
 decision-code n Forward e = rw e refl
 decision-code n PutLocally e = rw e refl
 decision-code n Withhold e = rw e refl
-
--- a flag is a bit
-pub bit : (b : Bool) → cond b 1 0 ≤ 1
-bit true = omega arith
-bit false = omega arith
 
 -- A TOLD ANSWER, by its cases
 pub told-denied : (x : Said) (r : Refusal) → x ≡ answer.Refused r → (before : List ℕ) (n : ℕ)

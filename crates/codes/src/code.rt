@@ -1,8 +1,8 @@
 // An answer as one number for C: what is given times 32, or a refusal's place times 32 and its number.
-use answers::Refusal;
+use refusals::Refusal;
 ghost use mathlib.Core.Path.{_≡_};
 ghost use Prim.Native.Nat.{_+_, _*_, _≤_};
-ghost use Rattle.answers.specs.Refusals.{numberOf, placeOf};
+ghost use Rattle.refusals.specs.Refusals.{numberOf, placeOf};
 
 // What an accepted call gives.
 pub fn given(n: usize) -> u64
@@ -17,5 +17,5 @@ pub fn refused(r: Refusal) -> u64
     requires { ⌜ placeOf r ≤ 4294967296 ⌝ }
     ensures { λ n. ⌜ n ≡ placeOf r * 32 + numberOf r ⌝ }
 {
-    answers::place(r) as u64 * 32 + answers::number(r) as u64
+    refusals::place(r) as u64 * 32 + refusals::number(r) as u64
 }

@@ -1,13 +1,13 @@
 // What an event did, in numbers, and the level of an activity by its number.
 use crate::code::given;
-use answers::Refusal;
+use refusals::Refusal;
 use verdict::Answer;
 use verdict::Level;
 use verdict::index_of;
 ghost use mathlib.Core.Path.{_≡_};
 ghost use mathlib.Core.Bool.{cond};
 ghost use Prim.Native.Nat.{_+_, _*_, _≤_};
-ghost use Rattle.answers.specs.Refusals.{numberOf, placeOf, owed};
+ghost use Rattle.refusals.specs.Refusals.{numberOf, placeOf, owed};
 ghost use Rattle.verdict.specs.Plans.{levelOf, answerOf};
 ghost use Rattle.codes.specs.Events.{levelIn, Brief, Tells};
 
@@ -22,7 +22,7 @@ fn denied(r: Refusal) -> u64
     requires { ⌜ placeOf r ≤ 65536 ⌝ }
     ensures { λ n. ⌜ n ≡ (placeOf r + cond (owed r) 1 0) * 32 + numberOf r ⌝ }
 {
-    (answers::place(r) as u64 + flag(answers::reply_owed(r))) * 32 + answers::number(r) as u64
+    (refusals::place(r) as u64 + flag(refusals::reply_owed(r))) * 32 + refusals::number(r) as u64
 }
 
 // What an event did, or the refusal.

@@ -10,9 +10,9 @@ ghost use mathlib.Core.Path.{_≡_};
 ghost use Rattle.pcf.specs.Messages.{checkedOf};
 ghost use Rattle.listing.specs.Entries.{listedOf};
 ghost use Rattle.compose.specs.Composes.{composedOf};
-ghost use Rattle.attributes.specs.Decisions.{judgedOf};
+ghost use Rattle.attributes.specs.Decisions.{decisionOf, judgedOf};
 ghost use Rattle.codes.specs.Codes.{code, Fits};
-ghost use Rattle.codes.specs.Decisions.{decided, decisionOf};
+ghost use Rattle.codes.specs.Decisions.{decisionNumber, decided};
 
 // The check's answer.
 pub fn checked(found: Checked) -> u64
@@ -49,7 +49,7 @@ pub fn composed(found: Composed) -> u64
 
 // A decision's number for C.
 fn number_of(decision: Decision) -> usize
-    ensures { λ r. ⌜ r ≡ decisionOf decision ⌝ }
+    ensures { λ r. ⌜ r ≡ decisionNumber (decisionOf decision) ⌝ }
 {
     match decision {
         Decision::Forward => 1,

@@ -14,7 +14,7 @@ use Rattle.meaning.specs.Names.{badSheet, badAttribute, noRoom}
 use Rattle.meaning.specs.Answer.{Result, accepted, refused}
 use Rattle.meaning.specs.Trace.{Terms, sheetOk, inRange}
 use Rattle.meaning.specs.Compose.{headerFields, traceHeaderFields, groupFields, integers, composedFields, composed, valuesOk, composeAnswer, Composed, compose}
-use Rattle.meaning.proofs.Writing.{splice-words, splice-number, words-one}
+use Rattle.meaning.proofs.Splices.{splice-words, splice-number, words-one}
 
 -- four numbers in a row
 pub four-words : (s : List ℕ) (at a b c d : ℕ) → at + 16 ≤ length s

@@ -11,19 +11,19 @@ use lib.Dec.{eqb}
 use borrow.Author.Tests.{eq-eqb, ne-eqb}
 use Rattle.meaning.specs.Bytes.{number, bytes4, words, splice}
 use Rattle.meaning.specs.Compose.{headerFields, traceHeaderFields, reportHeaderFields}
-use Rattle.meaning.proofs.Writing.{splice-number}
+use Rattle.meaning.proofs.Splices.{splice-number}
 use Rattle.compose.specs.declared.header.Kind.{Kind}
 use Rattle.compose.specs.declared.header.Kind.the-variants.{Trace, Report}
-use Rattle.compose.specs.Headers.{rowOf, fieldsOf, startsWith}
+use Rattle.compose.specs.Headers.{offsetOf, fieldsOf, startsWith}
 use Rattle.attributes.proofs.Lists.{rest-none, rest-next}
 
 -- THE TABLE'S RULE: from each row's start on it has the nine fields of that header
 abbrev pub Rule : List ℕ → Type 0
-Rule table = (k : Kind) → take 9 (drop (rowOf k) table) ≡ fieldsOf k
+Rule table = (k : Kind) → take 9 (drop (offsetOf k) table) ≡ fieldsOf k
 
-pub entry : (table : List ℕ) → Rule table → (k : Kind) (i : ℕ) → i < 9 → getD table (rowOf k + i) 0 ≡ getD (fieldsOf k) i 0
+pub entry : (table : List ℕ) → Rule table → (k : Kind) (i : ℕ) → i < 9 → getD table (offsetOf k + i) 0 ≡ getD (fieldsOf k) i 0
 entry table rule k i h =
-    sym (getD-drop (rowOf k) table i 0) ∙ sym (getD-take 9 (drop (rowOf k) table) i 0 h) ∙ ap (λ (l : List ℕ). getD l i 0) (rule k)
+    sym (getD-drop (offsetOf k) table i 0) ∙ sym (getD-take 9 (drop (offsetOf k) table) i 0 h) ∙ ap (λ (l : List ℕ). getD l i 0) (rule k)
 
 pub nine : (k : Kind) → length (fieldsOf k) ≡ 9
 unfolding headerFields traceHeaderFields reportHeaderFields

@@ -3,7 +3,7 @@ use Prim.Native.Nat.{ℕ}
 use mathlib.Core.List.{List}
 use Rattle.meaning.specs.Answer.{Result, accepted}
 use Rattle.meaning.specs.Compose.{Composed as Meant}
-use Rattle.answers.specs.Refusals.{refusal}
+use Rattle.refusals.specs.Refusals.{refusal}
 use Rattle.compose.specs.declared.composition.Composed.{Composed}
 use Rattle.compose.specs.declared.composition.Composed.the-variants.{Written, Refused}
 

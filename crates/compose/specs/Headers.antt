@@ -9,9 +9,9 @@ use Rattle.compose.specs.declared.header.Kind.{Kind}
 use Rattle.compose.specs.declared.header.Kind.the-variants.{Trace, Report}
 
 -- where the fields of a header start in the table
-abbrev pub rowOf : Kind → ℕ
-rowOf Trace = 0
-rowOf Report = 9
+abbrev pub offsetOf : Kind → ℕ
+offsetOf Trace = 0
+offsetOf Report = 9
 
 abbrev pub fieldsOf : Kind → List ℕ
 fieldsOf Trace = traceHeaderFields

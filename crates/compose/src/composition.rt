@@ -1,7 +1,7 @@
 // Compose: a trace-route message from a sheet and eight values.
 use crate::header::Kind;
 use crate::header::put_header;
-use answers::Refusal;
+use refusals::Refusal;
 use attributes::in_range;
 use attributes::sheet_ok;
 use structure::MQCFT_GROUP;

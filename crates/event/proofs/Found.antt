@@ -9,9 +9,9 @@ use Rattle.meaning.specs.Answer.{Result, accepted, refused}
 use Rattle.meaning.specs.Structure.{Row}
 use Rattle.meaning.specs.Trace.{Terms, Trace, readTrace}
 use Rattle.meaning.specs.Event.{Event, discontinuity, denied, soundEvent, groupOf, Plan, planOf, decide, applied, leaving, onTrace, event, groupOk}
-use Rattle.answers.specs.Refusals.{numberOf, placeOf, owed, refusal}
-use Rattle.answers.specs.declared.Refusal.{Refusal}
-use Rattle.answers.specs.declared.Refusal.the-variants as refusals
+use Rattle.refusals.specs.Refusals.{numberOf, placeOf, owed, refusal}
+use Rattle.refusals.specs.declared.Refusal.{Refusal}
+use Rattle.refusals.specs.declared.Refusal.the-variants as refusals
 use Rattle.meaning.proofs.Outcomes.{read-refused as unread}
 use Rattle.trace.specs.Locations.{Attributes, Done, done, answerOf, located, locatedOf}
 use Rattle.trace.specs.declared.location.Answer.the-variants as told

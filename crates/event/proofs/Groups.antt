@@ -7,11 +7,11 @@ use lib.ListN.{length}
 use lib.Dec.{eqb}
 use lib.Seq.{take-length}
 use borrow.Author.Tests.{le-leb, lt-leb, eq-eqb, ne-eqb}
-use Rattle.meaning.specs.Bytes.{Part, number}
+use Rattle.meaning.specs.Bytes.{Part, number, whole}
 use Rattle.meaning.specs.Answer.{Result, accepted, refused}
 use Rattle.meaning.specs.Message.{partOf}
 use Rattle.meaning.specs.Walk.{Walked, walk}
-use Rattle.meaning.specs.Event.{lent, endsAt, groupOk}
+use Rattle.meaning.specs.Event.{endsAt, groupOk}
 use Rattle.walk.specs.Passings.{Passage, passage}
 
 -- where a walk ended
@@ -24,8 +24,8 @@ ends-as n (accepted w) = refl
 ends-as n (refused k p) = refl
 
 -- the group as the message that fills its bytes
-lent-part : (g : List ℕ) → partOf g (length g) ≡ lent g
-lent-part g = ap (λ (b : List ℕ). record { bytes = b; start = 0; end = length g }) (take-length g)
+whole-part : (g : List ℕ) → partOf g (length g) ≡ whole g
+whole-part g = ap (λ (b : List ℕ). record { bytes = b; start = 0; end = length g }) (take-length g)
 
 module _ (g : List ℕ) where
   pub too-short : length g < 16 → false ≡ groupOk g
@@ -52,4 +52,4 @@ module _ (g : List ℕ) where
         unfolding groupOk
         by-walk id e h =
             rw (le-leb 16 (length g) least, le-leb (length g) 65500 most, eq-eqb (number g 0) 20 kind, eq-eqb (number g 8) 8005 id)
-            (ap (endsIn (length g)) h ∙ sym (ends-as (length g) (walk (partOf g (length g)) 0 1 1)) ∙ ap (λ (m : Part). endsAt (length g) (walk m 0 1 1)) (lent-part g))
+            (ap (endsIn (length g)) h ∙ sym (ends-as (length g) (walk (partOf g (length g)) 0 1 1)) ∙ ap (λ (m : Part). endsAt (length g) (walk m 0 1 1)) (whole-part g))

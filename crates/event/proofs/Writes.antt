@@ -10,7 +10,7 @@ use Rattle.meaning.specs.Message.{partOf}
 use Rattle.meaning.specs.Compose.{headerFields, reportHeaderFields}
 use Rattle.meaning.specs.Event.{grown, grownIf, reportOf}
 use Rattle.meaning.proofs.Numbers.{length-words}
-use Rattle.meaning.proofs.Joins.{splice-next}
+use Rattle.meaning.proofs.Splices.{splice-next}
 use Rattle.meaning.proofs.Parts.{num-part}
 
 module _ (buf : List ℕ) (len at value : ℕ) (appends : Bool) (g : List ℕ) where

@@ -8,7 +8,7 @@ mod entered;
 mod group;
 mod written;
 
-use answers::Refusal;
+use refusals::Refusal;
 use entered::count;
 use entered::enter;
 use group::group_ok;

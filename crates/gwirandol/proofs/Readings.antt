@@ -4,12 +4,12 @@ use mathlib.Core.List.{List}
 use Prim.Native.Nat.{ℕ, _+_, _*_, _≤_}
 use Rattle.meaning.specs.Answer.{Result, accepted, refused}
 use Rattle.meaning.specs.Trace.{read}
-use Rattle.answers.specs.Refusals.{numberOf, placeOf, refusal}
-use Rattle.answers.specs.declared.Refusal.{Refusal}
-use Rattle.reading.specs.Readings.{Reading, reading, given, valuesOf}
+use Rattle.refusals.specs.Refusals.{numberOf, placeOf, refusal}
+use Rattle.refusals.specs.declared.Refusal.{Refusal}
+use Rattle.routing.specs.Readings.{Reading, reading, given, valuesOf}
 use Rattle.trace.specs.declared.location.Answer.{Answer}
 use Rattle.trace.specs.declared.location.Answer.the-variants as told
-use Rattle.reading.specs.declared.Values.{Values}
+use Rattle.routing.specs.declared.Values.{Values}
 use Rattle.attributes.specs.Terms.{termsOf}
 use Rattle.gwirandol.specs.Traces.{Reads}
 use Rattle.gwirandol.proofs.Reach.{read-small}

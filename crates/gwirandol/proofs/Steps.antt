@@ -4,8 +4,8 @@ use mathlib.Core.List.{List, [], _∷_}
 use Prim.Native.Nat.{ℕ}
 use Rattle.meaning.specs.Answer.{accepted}
 use Rattle.meaning.specs.Message.{step}
-use Rattle.answers.specs.Refusals.{numberOf, refusal}
-use Rattle.answers.specs.declared.Refusal.{Refusal}
+use Rattle.refusals.specs.Refusals.{numberOf, refusal}
+use Rattle.refusals.specs.declared.Refusal.{Refusal}
 use Rattle.structure.specs.Rows.{rowOf}
 use Rattle.structure.specs.declared.structure.Row.{Row}
 use Rattle.gwirandol.specs.Structures.{Steps}

@@ -20,9 +20,9 @@ pub record Lists (buf : List ℕ) (len : ℕ) (before : List ℕ) (r : ℕ) (aft
   pub bytes : after ≡ filled before buf len (scan buf len)
 
 -- ONE STRUCTURE: 0, or the refusal's number
-abbrev pub numberIn : Result Stepped → ℕ
-numberIn (accepted s) = 0
-numberIn (refused n p) = n
+abbrev pub stepNumber : Result Stepped → ℕ
+stepNumber (accepted s) = 0
+stepNumber (refused n p) = n
 
 -- the seven numbers of a row; a refusal leaves them
 abbrev pub rowIn : List ℕ → Result Stepped → List ℕ
@@ -31,5 +31,5 @@ rowIn before (accepted s) =
 rowIn before (refused n p) = before
 
 pub record Steps (buf : List ℕ) (len place depth : ℕ) (before : List ℕ) (r : ℕ) (after : List ℕ) : Type 0 where
-  pub answer : r ≡ numberIn (step buf len place depth)
+  pub answer : r ≡ stepNumber (step buf len place depth)
   pub row : after ≡ rowIn before (step buf len place depth)

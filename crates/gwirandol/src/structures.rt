@@ -50,7 +50,7 @@ pub extern "C" fn gw_step(
 {
     let found = pcf::step(buffer, length, Cursor { place, depth });
     match found {
-        Stepped::Refused(r) => answers::number(r) as u64,
+        Stepped::Refused(r) => refusals::number(r) as u64,
         Stepped::Structure(s, next) => {
             *row = [
                 s.depth as u64,

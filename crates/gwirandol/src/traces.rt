@@ -33,7 +33,7 @@ pub extern "C" fn gw_read(
     ensures { λ r. ⌜ Reads (now (buffer .entry)) length (now (sheet .entry)) (now (values .entry)) r (now (values .exit)) ⌝ }
 {
     let s = *sheet;
-    let found = reading::read(buffer, length, s);
+    let found = routing::read(buffer, length, s);
     let answer = found.answer;
     match answer {
         Answer::Refused(r) => refused(r),
@@ -56,7 +56,7 @@ pub extern "C" fn gw_forward(
     ensures { λ r. ⌜ r ≡ code (decided (forwarding (termsOf (now (sheet .entry))) (now (buffer .entry)) length supporting)) ⌝ }
 {
     let s = *sheet;
-    judged(reading::forward(buffer, length, s, supporting))
+    judged(routing::forward(buffer, length, s, supporting))
 }
 
 // ARRIVAL: 2 to put, 3 to withhold, or Read's refusals, then 14.
@@ -65,7 +65,7 @@ pub extern "C" fn gw_arrive(buffer: &[u8], length: usize, sheet: &[u32; 8]) -> u
     ensures { λ r. ⌜ r ≡ code (decided (arrival (termsOf (now (sheet .entry))) (now (buffer .entry)) length)) ⌝ }
 {
     let s = *sheet;
-    judged(reading::arrive(buffer, length, s))
+    judged(routing::arrive(buffer, length, s))
 }
 
 // THE N-TH ACTIVITY GROUP: its place and length, 0 and 0 if there is none.

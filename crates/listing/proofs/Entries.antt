@@ -6,7 +6,7 @@ use native.Mathlib.Nat.{zero-add}
 use native.Mathlib.Omega.{arith}
 use lib.ListN.{length, take, drop, length-append}
 use lib.Seq.{length-take-le, take-at}
-use Rattle.meaning.specs.Bytes.{Part, splice}
+use Rattle.meaning.specs.Bytes.{Part, splice, whole}
 use Rattle.meaning.specs.Answer.{Result, accepted, refused, andThen}
 use Rattle.meaning.specs.Structure.{Row}
 use Rattle.meaning.specs.Message.{partOf, rowsOf, scan, check}
@@ -16,9 +16,8 @@ use Rattle.meaning.proofs.Scans.{Sized}
 use Rattle.meaning.proofs.Sound.{SoundRows, sound-scan, rows-of}
 use Rattle.meaning.proofs.Outcomes.{scan-refused, check-accepted, check-refused}
 use Rattle.text.specs.Wrote.{Wrote}
-use Rattle.answers.specs.Refusals.{numberOf, placeOf, refusal}
-use Rattle.answers.specs.declared.Refusal.{Refusal}
-use Rattle.listing.specs.Rows.{whole}
+use Rattle.refusals.specs.Refusals.{numberOf, placeOf, refusal}
+use Rattle.refusals.specs.declared.Refusal.{Refusal}
 use Rattle.listing.specs.Text.{textOf, Checked}
 use Rattle.listing.specs.Entries.{filled, Lists, Prints}
 use Rattle.listing.specs.declared.Listed.the-variants.{Text, Refused}

@@ -4,7 +4,7 @@ use mathlib.Core.List.{List, _++_}
 use Prim.Native.Nat.{ℕ, _≤_}
 use native.Mathlib.Omega.{arith}
 use lib.ListN.{length}
-use Rattle.meaning.specs.Bytes.{number}
+use Rattle.meaning.specs.Bytes.{number, whole}
 use Rattle.meaning.specs.Walk.{walked, walk}
 use Rattle.meaning.specs.Message.{rowsOf}
 use Rattle.meaning.specs.Listing.{headerLine, rowLines, endLine, listingText}
@@ -15,7 +15,7 @@ use Rattle.meaning.proofs.Sound.{sound-rows}
 use Rattle.text.specs.Wrote.{Room, Wrote}
 use Rattle.text.specs.Lines.{headerText}
 use Rattle.text.proofs.Laws.{front, behind, then}
-use Rattle.listing.specs.Rows.{whole, Due, Done}
+use Rattle.listing.specs.Rows.{Due, Done}
 use Rattle.listing.specs.Text.{textOf, Checked}
 use Rattle.listing.specs.declared.rows.Behind.{Behind}
 use Rattle.listing.proofs.Turns.{done-as, wrote-as, room-as}

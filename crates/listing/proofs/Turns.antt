@@ -4,18 +4,18 @@ use mathlib.Core.List.{List, [], _++_, append-nil}
 use Prim.Native.Nat.{ℕ, _+_, _-_, _≤_, _<_}
 use native.Mathlib.Omega.{arith}
 use lib.ListN.{length}
-use Rattle.meaning.specs.Bytes.{number}
+use Rattle.meaning.specs.Bytes.{number, whole}
 use Rattle.meaning.specs.Answer.{Result}
 use Rattle.meaning.specs.Walk.{Walked, walked, walk}
 use Rattle.meaning.specs.Listing.{rowLines}
 use Rattle.meaning.proofs.Fuel.{walk-zero}
-use Rattle.meaning.proofs.Joins.{splice-none}
+use Rattle.meaning.proofs.Splices.{splice-none}
 use Rattle.meaning.proofs.Lines.{rowLines-none}
 use Rattle.text.specs.Wrote.{Room, Wrote}
 use Rattle.text.specs.Lines.{lineText}
 use Rattle.text.specs.declared.Line.{Line}
 use Rattle.text.proofs.Laws.{front, behind, then}
-use Rattle.listing.specs.Rows.{whole, lineAt, Due, Done}
+use Rattle.listing.specs.Rows.{lineAt, Due, Done}
 use Rattle.listing.specs.declared.rows.Behind.{Behind}
 use Rattle.listing.proofs.Walked.{Split, split, Opened, opened}
 

@@ -7,7 +7,7 @@ use native.Mathlib.Numerals.{add-one}
 use native.Mathlib.Omega.{arith}
 use lib.ListN.{length}
 use borrow.Author.Tests.{eq-eqb, ne-eqb}
-use Rattle.meaning.specs.Bytes.{Part, number}
+use Rattle.meaning.specs.Bytes.{Part, number, whole}
 use Rattle.meaning.specs.Structure.{Row}
 use Rattle.meaning.specs.Walk.{walked, walk}
 use Rattle.meaning.specs.Listing.{rowLine, rowLines}
@@ -16,7 +16,7 @@ use Rattle.meaning.proofs.Walks.{Walks, none, more, walks, walk-of}
 use Rattle.meaning.proofs.Members.{group-shallow}
 use Rattle.meaning.proofs.Lines.{members-at, walks-end, walks-none, rowLines-append, rowLines-more}
 use Rattle.text.specs.Lines.{lineText}
-use Rattle.listing.specs.Rows.{whole, lineAt}
+use Rattle.listing.specs.Rows.{lineAt}
 
 -- the structures of a walk: the first one with all that is inside it, and the others
 pub record Split (m : Part) (p d n : ℕ) (rows : List Row) (q : ℕ) : Type 0 where

@@ -8,7 +8,7 @@ use Rattle.meaning.specs.Answer.{Result, accepted, refused, andThen}
 use Rattle.meaning.specs.Structure.{Row}
 use Rattle.meaning.specs.Message.{partOf, scan}
 use Rattle.meaning.specs.Listing.{listingText, listing}
-use Rattle.answers.specs.Refusals.{refusal}
+use Rattle.refusals.specs.Refusals.{refusal}
 use Rattle.text.specs.Wrote.{Wrote}
 use Rattle.listing.specs.declared.Listed.{Listed}
 use Rattle.listing.specs.declared.Listed.the-variants.{Text, Refused}

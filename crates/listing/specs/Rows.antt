@@ -1,30 +1,22 @@
 -- The rows of a checked message, as text.
 use Prim.Native.Nat.{ℕ, _+_, _≤_}
 use mathlib.Core.Path.{_≡_}
-use mathlib.Core.List.{List, []}
+use mathlib.Core.List.{List}
 use lib.ListN.{length}
-use Rattle.meaning.specs.Bytes.{Part, number}
+use Rattle.meaning.specs.Bytes.{whole, number}
 use Rattle.meaning.specs.Answer.{Result, accepted, refused}
 use Rattle.meaning.specs.Structure.{Row}
-use Rattle.meaning.specs.Walk.{Walked, walked, walk}
+use Rattle.meaning.specs.Walk.{Walked, walked, rowsIn, walk}
 use Rattle.meaning.specs.Listing.{rowLines}
 use Rattle.text.specs.Wrote.{Room, Wrote}
 use Rattle.text.specs.declared.Line.{Line}
 use Rattle.listing.specs.declared.rows.Behind.{Behind}
 
--- a lent slice that is a message: all its bytes
-abbrev pub whole : List ℕ → Part
-whole s = record { bytes = s; start = 0; end = length s }
-
 -- the line of the structure at a place
 abbrev pub lineAt : List ℕ → ℕ → ℕ → Line
 lineAt s p d = record { depth = d; place = p; kind = number s p; parameter = number s (p + 8); size = number s (p + 4) }
 
--- the rows of a walk, and the place behind it
-abbrev pub rowsIn : Result Walked → List Row
-rowsIn (accepted w) = w .rows
-rowsIn (refused n p) = []
-
+-- the place behind a walk
 abbrev pub nextIn : Result Walked → ℕ
 nextIn (accepted w) = w .next
 nextIn (refused n p) = 0

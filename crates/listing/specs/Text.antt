@@ -3,11 +3,11 @@ use Prim.Native.Nat.{ℕ, _≤_}
 use mathlib.Core.Path.{_≡_}
 use mathlib.Core.List.{List, []}
 use lib.ListN.{length}
+use Rattle.meaning.specs.Bytes.{whole}
 use Rattle.meaning.specs.Answer.{Result, accepted, refused}
 use Rattle.meaning.specs.Structure.{Row}
 use Rattle.meaning.specs.Message.{rowsOf}
 use Rattle.meaning.specs.Listing.{listingText}
-use Rattle.listing.specs.Rows.{whole}
 
 -- the text of a message that was checked: it fills the slice s
 abbrev pub textOf : List ℕ → Result (List Row) → List ℕ

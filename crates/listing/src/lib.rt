@@ -2,14 +2,14 @@
 mod rows;
 mod whole;
 
-use answers::Refusal;
+use refusals::Refusal;
 use pcf::Checked;
 use pcf::check;
 use text::put_refusal;
 use whole::put_listing;
 ghost use Prim.Native.Nat.{_<_};
 ghost use Rattle.meaning.specs.Listing.{refusalLine};
-ghost use Rattle.answers.specs.Refusals.{numberOf, placeOf};
+ghost use Rattle.refusals.specs.Refusals.{numberOf, placeOf};
 ghost use Rattle.text.specs.Wrote.{Wrote};
 ghost use Rattle.listing.specs.Entries.{Lists, Prints};
 
@@ -36,7 +36,7 @@ fn refused_line(r: Refusal, out: &mut [u8; 131072]) -> usize
     requires { ⌜ placeOf r < 4294967296 ⌝ }
     ensures { λ n. ⌜ Wrote (now (out .entry)) 0 (refusalLine (numberOf r) (placeOf r)) (now (out .exit)) n ⌝ }
 {
-    put_refusal(out, 0, answers::number(r), answers::place(r) as u32)
+    put_refusal(out, 0, refusals::number(r), refusals::place(r) as u32)
 }
 
 // PRINT: all that the listing program writes for an input. The answer is the text's length.

@@ -6,8 +6,9 @@ use wire::number_at;
 ghost use mathlib.Core.Path.{_≡_};
 ghost use Prim.Native.Nat.{_+_, _≤_};
 ghost use lib.ListN.{length};
+ghost use Rattle.meaning.specs.Bytes.{whole};
 ghost use Rattle.meaning.specs.Walk.{walk};
-ghost use Rattle.listing.specs.Rows.{whole, lineAt, Due, Done};
+ghost use Rattle.listing.specs.Rows.{lineAt, Due, Done};
 
 // The place behind the text that was written, and the place behind the structures that it shows.
 pub struct Behind {

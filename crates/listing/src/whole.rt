@@ -5,9 +5,9 @@ use text::put_header;
 use wire::number_at;
 ghost use Prim.Native.Nat.{_≤_};
 ghost use lib.ListN.{length};
+ghost use Rattle.meaning.specs.Bytes.{whole};
 ghost use Rattle.meaning.specs.Message.{rowsOf};
 ghost use Rattle.text.specs.Wrote.{Wrote};
-ghost use Rattle.listing.specs.Rows.{whole};
 ghost use Rattle.listing.specs.Text.{Checked, textOf};
 
 // Writes the header line, the lines of all structures and the last line. That they fit is known: a structure has 16 bytes

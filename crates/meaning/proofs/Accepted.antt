@@ -9,6 +9,7 @@ use native.Mathlib.Nat.{add-zero}
 use native.Mathlib.Omega.{arith}
 use lib.ListN.{length, take, drop}
 use lib.Dec.{leb, eqb}
+use Rattle.meaning.proofs.Stores.{length-store, take-store, drop-store}
 use Rattle.meaning.specs.Bytes.{Part, bump}
 use Rattle.meaning.specs.Names.{mostCount, mostBytes}
 use Rattle.meaning.specs.Answer.{accepted, when, unless}
@@ -18,7 +19,7 @@ use Rattle.meaning.specs.Event.{State, Event, Answer, done, denied, Done
 use Rattle.meaning.specs.View.{risen}
 use Rattle.meaning.specs.Demand3.{isDone}
 use Rattle.meaning.proofs.Tests.{clash}
-use Rattle.meaning.proofs.Splices.{length-store, take-splice, drop-splice, take-store, drop-store}
+use Rattle.meaning.proofs.Splices.{take-splice, drop-splice}
 use Rattle.meaning.proofs.Sound.{Sound, sound, read-of}
 use Rattle.meaning.proofs.Changed.{lies}
 use Rattle.meaning.proofs.Spans.{spansOf}

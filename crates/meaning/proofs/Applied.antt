@@ -10,34 +10,35 @@ use lib.ListN.{length, getD, set, length-set, length-map}
 use lib.Seq.{getD-take, ext-getD, getD-set-same, getD-set-other}
 use lib.Dec.{leb, eqb}
 use borrow.Author.Tests.{lt-ltb, leb-true, eqb-true, eqb-false}
-use Rattle.meaning.specs.Bytes.{Part, num, bump}
+use Rattle.meaning.proofs.Stores.{length-store, store-same, num-store}
+use Rattle.meaning.specs.Bytes.{Part, num, bump, whole}
 use Rattle.meaning.specs.Names.{«MQCFT_GROUP», «MQGACF_ACTIVITY», mostBytes, mostCount, twoTo31}
 use Rattle.meaning.specs.Answer.{Result, accepted, refused}
 use Rattle.meaning.specs.Structure.{Row, small}
 use Rattle.meaning.specs.Walk.{Walked, walk}
 use Rattle.meaning.specs.Message.{parameterCount, countPlace, partOf}
 use Rattle.meaning.specs.Trace.{Terms, Trace, value, valuePlace, valueAt, valuesAt}
-use Rattle.meaning.specs.Event.{lent, endsAt, groupOk, grown}
+use Rattle.meaning.specs.Event.{endsAt, groupOk, grown}
 use Rattle.meaning.specs.View.{risen}
 use Rattle.meaning.proofs.Tests.{clash, and-true}
 use Rattle.meaning.proofs.Structures.{Match, num-match, num-same}
 use Rattle.meaning.proofs.Walks.{Walks, walks, walks-as, walks-shift, shift}
-use Rattle.meaning.proofs.Splices.{length-splice, splice-before, splice-in, length-store, store-same, num-store}
+use Rattle.meaning.proofs.Splices.{length-splice, splice-before, splice-in}
 use Rattle.meaning.proofs.Sound.{SoundMessage, Sound}
 use Rattle.meaning.proofs.Changed.{Changed, Lies, lies, length-places, length-values, value-of, values-kept, count-le, sound-raised, sound-appended, OneActivity}
 
 -- a sound group, as its walk
 pub record Group (g : List ℕ) : Type 0 where
   pub rows : List Row
-  pub tree : Walks (lent g) 0 1 1 rows (length g)
-  pub kind : num (lent g) 0 ≡ «MQCFT_GROUP»
-  pub parameter : num (lent g) 8 ≡ «MQGACF_ACTIVITY»
+  pub tree : Walks (whole g) 0 1 1 rows (length g)
+  pub kind : num (whole g) 0 ≡ «MQCFT_GROUP»
+  pub parameter : num (whole g) 8 ≡ «MQGACF_ACTIVITY»
   pub least : 16 ≤ length g
   pub most : length g ≤ 65500
 
-group-walk : (g : List ℕ) (w : Result Walked) → walk (lent g) 0 1 1 ≡ w → endsAt (length g) w ≡ true → (rows : List Row) × Walks (lent g) 0 1 1 rows (length g)
+group-walk : (g : List ℕ) (w : Result Walked) → walk (whole g) 0 1 1 ≡ w → endsAt (length g) w ≡ true → (rows : List Row) × Walks (whole g) 0 1 1 rows (length g)
 group-walk g (accepted w) e h =
-    (w .rows, rw (eqb-true (w .next) (length g) h) at (walks (lent g) 0 1 1 (w .rows) (w .next) e))
+    (w .rows, rw (eqb-true (w .next) (length g) h) at (walks (whole g) 0 1 1 (w .rows) (w .next) e))
 group-walk g (refused n p) e h = absurd (clash (cc))
 
 pub group : (g : List ℕ) → groupOk g ≡ true → Group g
@@ -45,9 +46,9 @@ unfolding groupOk
 group g e =
     let a = and-true (leb 16 (length g)) _ e in
     let b = and-true (leb (length g) 65500) _ (a .1) in
-    let c = and-true (eqb (num (lent g) 0) 20) _ (b .1) in
-    let d = and-true (eqb (num (lent g) 8) 8005) _ (c .1) in
-    let w = group-walk g (walk (lent g) 0 1 1) refl (d .1) in
+    let c = and-true (eqb (num (whole g) 0) 20) _ (b .1) in
+    let d = and-true (eqb (num (whole g) 8) 8005) _ (c .1) in
+    let w = group-walk g (walk (whole g) 0 1 1) refl (d .1) in
     record {
       rows = w .0;
       tree = w .1;
@@ -58,12 +59,12 @@ group g e =
     }
 
 -- wherever its bytes are a part's last ones it is one Activity group
-pub activity-at : (m : Part) (l : ℕ) (g : List ℕ) (sg : Group g) → Match (lent g) 0 m l (length g) → m .end ≡ l + length g
+pub activity-at : (m : Part) (l : ℕ) (g : List ℕ) (sg : Group g) → Match (whole g) 0 m l (length g) → m .end ≡ l + length g
     → OneActivity m l (map (shift l) (sg .rows))
 activity-at m l g sg match ends =
     let least = sg .least in
-    let at : (k : ℕ) → k + 4 ≤ length g → num m (l + k) ≡ num (lent g) k =
-    λ k h. sym (num-match (lent g) m 0 l (length g) match k (l + k) k (omega arith) refl h) in
+    let at : (k : ℕ) → k + 4 ≤ length g → num m (l + k) ≡ num (whole g) k =
+    λ k h. sym (num-match (whole g) m 0 l (length g) match k (l + k) k (omega arith) refl h) in
     record {
       walk = walks-as (add-zero l) refl (sym ends) (walks-shift m l (sg .tree) match (omega arith));
       kind = rw (add-zero l) at (at 0 (omega arith)) ∙ sg .kind;
@@ -205,7 +206,7 @@ module _ (tm : Terms) (buf : List ℕ) (len : ℕ) (t : Trace) (s : Sound tm buf
     in-new : (i : ℕ) → i < len + length g → getD (P′ .bytes) i 0 ≡ getD b₃ i 0
     in-new i h = getD-take (len + length g) b₃ i 0 h
 
-    grown-match : Match (lent g) 0 P′ (P .end) (length g)
+    grown-match : Match (whole g) 0 P′ (P .end) (length g)
     grown-match = record {
       run = λ i h. ap (λ (x : ℕ). getD g x 0) (zero-add i) ∙ sym (grown-group i h) ∙ sym (in-new (P .end + i) (omega arith));
     }

@@ -11,7 +11,7 @@ use borrow.Author.Tests.{ltb-true, eqb-true, eqb-false, ne-eqb, not-true}
 use Rattle.meaning.specs.Names.{«MQCFT_INTEGER», twoTo31}
 use Rattle.meaning.specs.Answer.{consIf}
 use Rattle.meaning.specs.Structure.{Row, small}
-use Rattle.meaning.specs.Trace.{absent, different, Top, isTop, isDirect, untilTop, tops, isGroup, groupsIn, groups, directIn, directMembers, named, oneInteger, eachOnce, placeOfFirst}
+use Rattle.meaning.specs.Trace.{absent, identifiersOk, Top, isTop, isDirect, untilTop, tops, isGroup, groupsIn, groups, directIn, directMembers, named, oneInteger, eachOnce, placeOfFirst}
 use Rattle.meaning.proofs.Tests.{clash, and-true}
 use Rattle.meaning.proofs.Walks.{In, here, there, in-nil, in-cases}
 
@@ -105,31 +105,31 @@ absent-at x [] e j h = absurd (not-suc-le-zero h)
 absent-at x (y ∷ ys) e zero h = eqb-false x y (not-true (eqb x y) ((and-true (not (eqb x y)) (absent x ys) e) .0))
 absent-at x (y ∷ ys) e (suc j) h = absent-at x ys ((and-true (not (eqb x y)) (absent x ys) e) .1) j (le-of-suc-le-suc h)
 
-pub record Different (x : ℕ) (xs : List ℕ) : Type 0 where
+pub record Identifier (x : ℕ) (xs : List ℕ) : Type 0 where
   pub low : small x ≡ true
   pub not-in : absent x xs ≡ true
-  pub rest : different xs ≡ true
+  pub rest : identifiersOk xs ≡ true
 
-pub different-parts : (x : ℕ) (xs : List ℕ) → different (x ∷ xs) ≡ true → Different x xs
-unfolding different
-different-parts x xs e =
-    let f = and-true (leb 1 x) (small x && (absent x xs && different xs)) e in
-    let g = and-true (small x) (absent x xs && different xs) (f .1) in
-    let h = and-true (absent x xs) (different xs) (g .1) in
+pub identifiers-parts : (x : ℕ) (xs : List ℕ) → identifiersOk (x ∷ xs) ≡ true → Identifier x xs
+unfolding identifiersOk
+identifiers-parts x xs e =
+    let f = and-true (leb 1 x) (small x && (absent x xs && identifiersOk xs)) e in
+    let g = and-true (small x) (absent x xs && identifiersOk xs) (f .1) in
+    let h = and-true (absent x xs) (identifiersOk xs) (g .1) in
     record { low = g .0; not-in = h .0; rest = h .1 }
 
-pub different-at : (l : List ℕ) → different l ≡ true → (j k : ℕ) → j < length l → k < length l → getD l j 0 ≡ getD l k 0 → j ≡ k
-different-at [] e j k h h′ q = absurd (not-suc-le-zero h)
-different-at (x ∷ xs) e zero zero h h′ q = refl
-different-at (x ∷ xs) e zero (suc k) h h′ q = absurd (absent-at x xs (different-parts x xs e .not-in) k (le-of-suc-le-suc h′) q)
-different-at (x ∷ xs) e (suc j) zero h h′ q = absurd (absent-at x xs (different-parts x xs e .not-in) j (le-of-suc-le-suc h) (sym q))
-different-at (x ∷ xs) e (suc j) (suc k) h h′ q =
-    ap suc (different-at xs (different-parts x xs e .rest) j k (le-of-suc-le-suc h) (le-of-suc-le-suc h′) q)
+pub identifiers-at : (l : List ℕ) → identifiersOk l ≡ true → (j k : ℕ) → j < length l → k < length l → getD l j 0 ≡ getD l k 0 → j ≡ k
+identifiers-at [] e j k h h′ q = absurd (not-suc-le-zero h)
+identifiers-at (x ∷ xs) e zero zero h h′ q = refl
+identifiers-at (x ∷ xs) e zero (suc k) h h′ q = absurd (absent-at x xs (identifiers-parts x xs e .not-in) k (le-of-suc-le-suc h′) q)
+identifiers-at (x ∷ xs) e (suc j) zero h h′ q = absurd (absent-at x xs (identifiers-parts x xs e .not-in) j (le-of-suc-le-suc h) (sym q))
+identifiers-at (x ∷ xs) e (suc j) (suc k) h h′ q =
+    ap suc (identifiers-at xs (identifiers-parts x xs e .rest) j k (le-of-suc-le-suc h) (le-of-suc-le-suc h′) q)
 
-pub small-at : (is : List ℕ) → different is ≡ true → (j : ℕ) → j < length is → getD is j 0 < twoTo31
+pub small-at : (is : List ℕ) → identifiersOk is ≡ true → (j : ℕ) → j < length is → getD is j 0 < twoTo31
 small-at [] e j h = absurd (not-suc-le-zero h)
-small-at (i ∷ is) e zero h = ltb-true i twoTo31 (different-parts i is e .low)
-small-at (i ∷ is) e (suc j) h = small-at is (different-parts i is e .rest) j (le-of-suc-le-suc h)
+small-at (i ∷ is) e zero h = ltb-true i twoTo31 (identifiers-parts i is e .low)
+small-at (i ∷ is) e (suc j) h = small-at is (identifiers-parts i is e .rest) j (le-of-suc-le-suc h)
 
 -- ONE MORE TOP-LEVEL STRUCTURE behind the others: its row, and deeper rows inside it
 abbrev pub Deep : List Row → Type 0

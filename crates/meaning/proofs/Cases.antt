@@ -11,9 +11,9 @@ use Rattle.meaning.specs.Structure.{lengthRule, judge, structureAt}
 use Rattle.meaning.specs.Walk.{walkFuel, walk}
 use Rattle.meaning.specs.Message.{headerOk, lengthOk, closed, rowsOf, scan, check}
 use Rattle.meaning.specs.Listing.{ascii, digits, decimal, column, headerLine, rowLine, rowLines, endLine, listingText, refusalLine, listing}
-use Rattle.meaning.specs.Trace.{absent, different, sheetOk, traceFields, traceHeader, untilTop, tops, groupsIn, groups, directIn, directMembers, named, oneInteger, eachOnce, placeOfFirst, placesOf, valueAt, valuesAt, detailOk, accumulateOk, anyBit, oneBit, forwardOk, deliverOk, inRange, readMembers, readRows, readTrace, read}
+use Rattle.meaning.specs.Trace.{absent, identifiersOk, sheetOk, traceFields, traceHeader, untilTop, tops, groupsIn, groups, directIn, directMembers, named, oneInteger, eachOnce, placeOfFirst, placesOf, valueAt, valuesAt, detailOk, accumulateOk, anyBit, oneBit, forwardOk, deliverOk, inRange, readMembers, readRows, readTrace, read}
 use Rattle.meaning.specs.Compose.{headerFields, traceHeaderFields, reportHeaderFields, groupFields, integers, composedFields, composed, valuesOk, composeAnswer, compose}
-use Rattle.meaning.specs.Event.{low, Event, discontinuity, activity, groupOk, groupOf, soundEvent, unrecordedForLevel, reported, accumulated, planOf, Answer, done, denied, sum, overLimit, replyOwed, decide, State, Outcome, grown, reportOf, applied, onTrace, event}
+use Rattle.meaning.specs.Event.{low, Event, discontinuity, activity, groupOk, groupOf, soundEvent, unrecordedForLevel, reported, accumulated, planOf, Answer, done, denied, counterSum, overLimit, replyOwed, decide, State, Outcome, grown, reportOf, applied, onTrace, event}
 use Rattle.meaning.specs.Activity.{sizeOf, activityGroup, isPad, trimmed, strings, Name, nameOf}
 use Rattle.meaning.specs.Decision.{Decision, forward, unrecognised, deliverYes, ifSupported, forwardBy, arriveBy, forwarding, arrival}
 use Rattle.meaning.proofs.ReadsBack.{madeUp}
@@ -119,7 +119,7 @@ cases =
 
 -- every definition that a case computes through
 unfoldable pub definitions : ℕ
-unfolding number word bytes4 words splice store lengthRule judge structureAt walkFuel walk headerOk lengthOk closed rowsOf scan check digits decimal column headerLine rowLine rowLines endLine listingText refusalLine listing absent different sheetOk traceFields traceHeader untilTop tops groupsIn groups directIn directMembers named oneInteger eachOnce placeOfFirst placesOf valueAt valuesAt detailOk accumulateOk anyBit oneBit forwardOk deliverOk inRange readMembers readRows readTrace read headerFields traceHeaderFields reportHeaderFields groupFields integers composedFields composed valuesOk composeAnswer compose groupOk groupOf soundEvent unrecordedForLevel reported accumulated planOf sum overLimit replyOwed decide grown reportOf applied onTrace event unrecognised deliverYes ifSupported forwardBy arriveBy forwarding arrival sizeOf activityGroup isPad trimmed strings nameOf
+unfolding number word bytes4 words splice store lengthRule judge structureAt walkFuel walk headerOk lengthOk closed rowsOf scan check digits decimal column headerLine rowLine rowLines endLine listingText refusalLine listing absent identifiersOk sheetOk traceFields traceHeader untilTop tops groupsIn groups directIn directMembers named oneInteger eachOnce placeOfFirst placesOf valueAt valuesAt detailOk accumulateOk anyBit oneBit forwardOk deliverOk inRange readMembers readRows readTrace read headerFields traceHeaderFields reportHeaderFields groupFields integers composedFields composed valuesOk composeAnswer compose groupOk groupOf soundEvent unrecordedForLevel reported accumulated planOf counterSum overLimit replyOwed decide grown reportOf applied onTrace event unrecognised deliverYes ifSupported forwardBy arriveBy forwarding arrival sizeOf activityGroup isPad trimmed strings nameOf
 definitions = 0
 
 -- THE P CASES

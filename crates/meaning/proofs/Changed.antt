@@ -12,12 +12,12 @@ use Rattle.meaning.specs.Bytes.{Part, num}
 use Rattle.meaning.specs.Names.{«MQCFH_STRUC_LENGTH», «MQCFH_VERSION_3», «MQCFT_GROUP», «MQGACF_TRACE_ROUTE», «MQGACF_ACTIVITY», mostBytes, twoTo31}
 use Rattle.meaning.specs.Structure.{Row, small}
 use Rattle.meaning.specs.Message.{field, parameterCount, countPlace, firstPlace, headerOk}
-use Rattle.meaning.specs.Trace.{Trace, isTop, isGroup, traceRoutes, activities, directMembers, named, placeOfFirst, placesOf, traceFields, traceHeader, value, valuePlace, valueAt, valuesAt, detailOk, accumulateOk, forwardOk, deliverOk, inRange, different, sheetOk}
+use Rattle.meaning.specs.Trace.{Trace, isTop, isGroup, traceRoutes, activities, directMembers, named, placeOfFirst, placesOf, traceFields, traceHeader, value, valuePlace, valueAt, valuesAt, detailOk, accumulateOk, forwardOk, deliverOk, inRange, identifiersOk, sheetOk}
 use Rattle.meaning.proofs.Tests.{and-true, true-and, and-false}
 use Rattle.meaning.proofs.Structures.{num-same}
-use Rattle.meaning.proofs.Walks.{Walks, walks-as, walks-le, walks-append, Tiles, tiles, tiles-row, Single, single}
-use Rattle.meaning.proofs.Kept.{Clear, own, below, above, tiles-above, tiles-clear, kept}
-use Rattle.meaning.proofs.Attributes.{Attribute, attribute, once-at, getD-map, different-at, groups-more, groups-same}
+use Rattle.meaning.proofs.Walks.{Walks, walks-as, walks-le, walks-append, Tiles, tiles, tiles-row, Single, single, tiles-from}
+use Rattle.meaning.proofs.Kept.{Clear, own, below, above, tiles-clear, kept}
+use Rattle.meaning.proofs.Attributes.{Attribute, attribute, once-at, getD-map, identifiers-at, groups-more, groups-same}
 use Rattle.meaning.proofs.Sound.{SoundMessage}
 
 -- the bytes of m that m′ may have otherwise: those of ParameterCount, and of the Value of the structure at q
@@ -39,7 +39,7 @@ module _ (sheet : List ℕ) (m : Part) (t : Trace) (ok : sheetOk sheet ≡ true)
 
   pub length-sheet : length sheet ≡ 8
   unfolding sheetOk
-  length-sheet = eqb-true (length sheet) 8 ((and-true (eqb (length sheet) 8) (different sheet) ok) .0)
+  length-sheet = eqb-true (length sheet) 8 ((and-true (eqb (length sheet) 8) (identifiersOk sheet) ok) .0)
 
   pub length-places : length (t .places) ≡ 8
   unfolding placesOf
@@ -67,7 +67,7 @@ module _ (sheet : List ℕ) (m : Part) (t : Trace) (ok : sheetOk sheet ≡ true)
   pub lies : (j : ℕ) → j < 8 → Lies j
   lies j h =
       let a = attr j h in
-      let l = tiles-above m (firstPlace m) (t .rows) (m .end) tiled (a .row) (a .among) in
+      let l = tiles-from m (firstPlace m) (t .rows) (m .end) tiled (a .row) (a .among) in
       let r = tiles-row m (firstPlace m) (t .rows) (m .end) tiled (a .row) (a .among) in
       record { behind = omega (arith, a .there-at); inside = omega (arith, a .there-at, r .at-least, r .at-fits) }
 
@@ -83,7 +83,7 @@ module _ (sheet : List ℕ) (m : Part) (t : Trace) (ok : sheetOk sheet ≡ true)
       let go : Clear (b .row .place) (a .row) → G = elim [
         | own e i ↦
             let same : value sheet j ≡ value sheet c = sym (a .known) ∙ sym (ra .at-parameter) ∙ ap (λ (x : ℕ). num m (x + 8)) e ∙ rb .at-parameter ∙ b .known in
-            absurd (d (different-at sheet ((and-true (eqb (length sheet) 8) (different sheet) ok) .1) j c (omega (arith, length-sheet)) (omega (arith, length-sheet)) same))
+            absurd (d (identifiers-at sheet ((and-true (eqb (length sheet) 8) (identifiersOk sheet) ok) .1) j c (omega (arith, length-sheet)) (omega (arith, length-sheet)) same))
         | below e ↦ f (omega (arith, a .there-at, b .there-at, ra .at-least))
         | above e ↦ g (omega (arith, a .there-at, b .there-at))
       ] in

@@ -13,11 +13,11 @@ use Rattle.meaning.specs.Bytes.{Part, num, word}
 use Rattle.meaning.specs.Answer.{accepted}
 use Rattle.meaning.specs.Structure.{Row, lengthRule, judge, structureAt}
 use Rattle.meaning.specs.Message.{field, headerOk, countOf, countsFrom}
-use Rattle.meaning.specs.Trace.{absent, different, sheetOk, traceFields, traceHeader, untilTop, tops, groupsIn, groups, traceRoutes, directIn, directMembers, named, oneInteger, eachOnce, placeOfFirst, placesOf, valueAt, valuesAt, inRange}
+use Rattle.meaning.specs.Trace.{absent, identifiersOk, sheetOk, traceFields, traceHeader, untilTop, tops, groupsIn, groups, traceRoutes, directIn, directMembers, named, oneInteger, eachOnce, placeOfFirst, placesOf, valueAt, valuesAt, inRange}
 use Rattle.meaning.specs.Compose.{headerFields, traceHeaderFields, groupFields, integers, composedFields}
 use Rattle.meaning.proofs.Tests.{and-true, true-and}
 use Rattle.meaning.proofs.Walks.{Walks, none, more, walks-as}
-use Rattle.meaning.proofs.Attributes.{getD-map, absent-at, different-parts, small-at}
+use Rattle.meaning.proofs.Attributes.{getD-map, absent-at, identifiers-parts, small-at}
 use Rattle.meaning.proofs.Sound.{SoundRows, SoundMessage}
 
 -- THE WORDS of integers
@@ -106,17 +106,17 @@ named-none x p (i ∷ is) e =
     let n : eqb i x ≡ false = ne-eqb i x (λ q. eqb-false x i (not-true (eqb x i) (f .0)) (sym q)) in
     rw n (named-none x (p + 16) is (f .1))
 
-named-one : (p : ℕ) (is : List ℕ) → different is ≡ true → (j : ℕ) → j < length is
+named-one : (p : ℕ) (is : List ℕ) → identifiersOk is ≡ true → (j : ℕ) → j < length is
     → named (getD is j 0) (integerRows p is) ≡ integerRow (p + 16 * j) (getD is j 0) ∷ []
 unfolding named integerRows
 named-one p [] e j h = absurd (not-suc-le-zero h)
 named-one p (i ∷ is) e zero h =
     let z : p + 16 * 0 ≡ p = omega arith in
-    rw (eq-eqb i i refl, named-none i (p + 16) is (different-parts i is e .not-in), z) refl
+    rw (eq-eqb i i refl, named-none i (p + 16) is (identifiers-parts i is e .not-in), z) refl
 named-one p (i ∷ is) e (suc j) h =
     let z : p + 16 * suc j ≡ p + 16 + 16 * j = omega arith in
-    let n : eqb i (getD is j 0) ≡ false = ne-eqb i (getD is j 0) (absent-at i is (different-parts i is e .not-in) j (le-of-suc-le-suc h)) in
-    rw (n, z) (named-one (p + 16) is (different-parts i is e .rest) j (le-of-suc-le-suc h))
+    let n : eqb i (getD is j 0) ≡ false = ne-eqb i (getD is j 0) (absent-at i is (identifiers-parts i is e .not-in) j (le-of-suc-le-suc h)) in
+    rw (n, z) (named-one (p + 16) is (identifiers-parts i is e .rest) j (le-of-suc-le-suc h))
 
 -- each of a list of identifiers found once, if each by its position is
 each-once : (ids : List ℕ) (members : List Row) → ((j : ℕ) → j < length ids → oneInteger (named (getD ids j 0) members) ≡ true) → eachOnce ids members ≡ true
@@ -149,7 +149,7 @@ composedRows p sheet = groupRow p ∷ integerRows (p + 52) sheet
 
 pub sheet-length : (sheet : List ℕ) → sheetOk sheet ≡ true → length sheet ≡ 8
 unfolding sheetOk
-sheet-length sheet ok = eqb-true (length sheet) 8 ((and-true (eqb (length sheet) 8) (different sheet) ok) .0)
+sheet-length sheet ok = eqb-true (length sheet) 8 ((and-true (eqb (length sheet) 8) (identifiersOk sheet) ok) .0)
 
 pub length-fields : (sheet v : List ℕ) → sheetOk sheet ≡ true → length v ≡ 8 → length (composedFields sheet v) ≡ 45
 unfolding composedFields traceHeaderFields headerFields groupFields
@@ -170,9 +170,9 @@ module _ (sheet v : List ℕ) (ok : sheetOk sheet ≡ true) (n8 : length v ≡ 8
   sheet8 : length sheet ≡ 8
   sheet8 = sheet-length sheet ok
 
-  distinct : different sheet ≡ true
+  distinct : identifiersOk sheet ≡ true
   unfolding sheetOk
-  distinct = (and-true (eqb (length sheet) 8) (different sheet) ok) .1
+  distinct = (and-true (eqb (length sheet) 8) (identifiersOk sheet) ok) .1
 
   module _ (m : Part) (holds : (k : ℕ) → k < 45 → getD ws k 0 < 4294967296 → num m (m .start + 4 * k) ≡ getD ws k 0) (ends : m .end ≡ m .start + 180) where
     word-there : (k x q : ℕ) → k < 45 → q ≡ m .start + 4 * k → getD ws k 0 ≡ x → x < 4294967296 → num m q ≡ x

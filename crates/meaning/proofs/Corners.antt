@@ -1,17 +1,19 @@
 -- CORNERS of the rules, computed: the errors that old forwarders made, and the points that are easily misread.
 -- One table, and one theorem that the definitions answer as it says.
-use mathlib.Core.Path.{_≡_, refl}
+use mathlib.Core.Path.{_≡_, refl, sym, ap, _∙_}
 use mathlib.Core.Bool.{true, false}
 use mathlib.Core.List.{List, [], _∷_, _++_, map}
-use Prim.Native.Nat.{ℕ, zero, suc, _+_}
-use lib.ListN.{length, replicate}
-use Rattle.meaning.specs.Bytes.{words}
+use Prim.Native.Nat.{ℕ, zero, suc, _+_, _≤_}
+use native.Mathlib.Omega.{arith}
+use lib.ListN.{length, getD, replicate}
+use Rattle.meaning.specs.Bytes.{words, whole, store}
 use Rattle.meaning.specs.Answer.{accepted, refused}
 use Rattle.meaning.specs.Trace.{read}
 use Rattle.meaning.specs.Compose.{compose}
 use Rattle.meaning.specs.Event.{State, discontinuity, denied, event}
 use Rattle.meaning.specs.Activity.{activityGroup, inMessage, substitute, nameOf}
-use Rattle.meaning.specs.Demand3.{soundTrace, limitOf, larger}
+use Rattle.meaning.specs.Demand3.{soundTrace, limitOf, limitPlace, larger, Alike}
+use Rattle.meaning.proofs.Stores.{length-store, store-same}
 use Rattle.meaning.proofs.ReadsBack.{madeUp}
 use Rattle.meaning.proofs.Cases.{Told, checks, reads, answers, leaves, names, decides, Case, case, checked, header, traceWith, counting, on, activityWith, rejected, forwarded, definitions}
 use Rattle.meaning.specs.Decision.{forward, putLocally, withhold, arrival}
@@ -127,8 +129,32 @@ pub corner-cases : map (λ (c : Case). c .said) corners ≡ map (λ (c : Case). 
 unfolding definitions corners
 corner-cases = refl
 
--- TRACES AS DEMAND 3 TAKES THEM are there: sound, and the second limit larger
-pub demand3-met : (soundTrace madeUp (counting 2 1 1 5) ≡ true) × (soundTrace madeUp (counting 2 1 1 0) ≡ true)
-    × (larger (limitOf madeUp (counting 2 1 1 5)) (limitOf madeUp (counting 2 1 1 0)) ≡ true)
+-- TRACES AS DEMAND 3 TAKES THEM are there: two sound ones that differ in their limits, 5 and none, and in nothing else
+abbrev limited : State
+limited = counting 2 1 1 5
+
+abbrev unlimited : State
+unlimited = counting 2 1 1 0
+
+-- the second is the first with another number where the limit stands
+apart : unlimited .buf ≡ store (whole (limited .buf)) (limited .buf) (limitPlace madeUp limited) 0
+unfolding definitions limitPlace
+apart = refl
+
+limit-fits : limitPlace madeUp limited + 4 ≤ length (limited .buf)
+unfolding definitions limitPlace
+limit-fits = omega arith
+
+alike : Alike (limitPlace madeUp limited) limited unlimited
+alike = record {
+  same-len = refl;
+  same-room = sym (ap length apart ∙ length-store (whole (limited .buf)) (limited .buf) (limitPlace madeUp limited) 0 limit-fits);
+  same-report = refl;
+  same-bytes = λ i h k. sym (ap (λ (b : List ℕ). getD b i 0) apart ∙ store-same (whole (limited .buf)) (limited .buf) (limitPlace madeUp limited) 0 limit-fits i k);
+}
+
+-- all that demand3 asks for, of these two
+pub demand3-met : (soundTrace madeUp limited ≡ true) × (soundTrace madeUp unlimited ≡ true) × Alike (limitPlace madeUp limited) limited unlimited
+    × (larger (limitOf madeUp limited) (limitOf madeUp unlimited) ≡ true)
 unfolding definitions soundTrace limitOf larger
-demand3-met = (refl, refl, refl)
+demand3-met = (refl, refl, alike, refl)

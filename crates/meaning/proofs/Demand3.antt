@@ -12,7 +12,7 @@ use borrow.Author.Tests.{eqb-true, eqb-false}
 use Rattle.meaning.specs.Names.{MaxActivities}
 use Rattle.meaning.specs.Answer.{Result, accepted, refused, unless}
 use Rattle.meaning.specs.Trace.{Terms, Trace, value, valuePlace, readTrace}
-use Rattle.meaning.specs.Event.{State, Event, discontinuity, Answer, done, denied, soundEvent, groupOf, planOf, sum, overLimit, decided, performed, leaving, onTrace, event}
+use Rattle.meaning.specs.Event.{State, Event, discontinuity, Answer, done, denied, soundEvent, groupOf, planOf, counterSum, overLimit, decided, performed, leaving, onTrace, event}
 use Rattle.meaning.specs.View.{View, viewOf, risen, viewAfter, Seen, seeing, verdict, seen}
 use Rattle.meaning.specs.Demand3.{isAccepted, soundTrace, sumOf, limitOf, limitPlace, larger, Alike, stateAfter, eventAt, stateAt, answerAt, isDone, isLimit, acceptedIn, due, Kept, Demand3}
 use Rattle.meaning.proofs.Tests.{clash, and-true}
@@ -23,8 +23,8 @@ use Rattle.meaning.proofs.Views.{event-seen}
 use Rattle.meaning.proofs.Twins.{limitAt, Both, event-both}
 
 -- ONE EVENT, as seen: the sum rises by one exactly if it is accepted, and the limit stays
-sum-risen : (v : List ℕ) (c : ℕ) → length v ≡ 8 → 1 ≤ c → c ≤ 3 → sum (risen v c) ≡ sum v + 1
-unfolding sum risen
+sum-risen : (v : List ℕ) (c : ℕ) → length v ≡ 8 → 1 ≤ c → c ≤ 3 → counterSum (risen v c) ≡ counterSum v + 1
+unfolding counterSum risen
 sum-risen v zero n lo hi = absurd (not-suc-le-zero lo)
 sum-risen v (suc zero) n lo hi =
     rw (getD-set-same v 1 (getD v 1 0 + 1) 0 (omega arith), getD-set-other v 1 2 (getD v 1 0 + 1) 0 (λ x. omega arith), getD-set-other v 1 3 (getD v 1 0 + 1) 0 (λ x. omega arith)) (omega arith)
@@ -39,7 +39,7 @@ unfolding risen
 limit-risen v c hi = getD-set-other v c 4 (getD v c 0 + 1) 0 (λ x. omega arith)
 
 record Counted (w : View) (s : Seen) : Type 0 where
-  pub total : sum (s .next .values) ≡ sum (w .values) + cond (isDone (s .answer)) 1 0
+  pub total : counterSum (s .next .values) ≡ counterSum (w .values) + cond (isDone (s .answer)) 1 0
   pub limit : value (s .next .values) MaxActivities ≡ value (w .values) MaxActivities
 
 module _ (w : View) (e : Event) (eight : length (w .values) ≡ 8) where
@@ -48,7 +48,7 @@ module _ (w : View) (e : Event) (eight : length (w .values) ≡ 8) where
   counted-by (done d) =
       let k = plan-ok (w .values) e in
       record { total = sum-risen (w .values) _ eight (k .lo) (k .hi); limit = limit-risen (w .values) _ (k .hi) }
-  counted-by (denied n p owed) = record { total = sym (add-zero (sum (w .values))); limit = refl }
+  counted-by (denied n p owed) = record { total = sym (add-zero (counterSum (w .values))); limit = refl }
 
   counted : Counted w (seen w e)
   unfolding seen
@@ -57,7 +57,7 @@ module _ (w : View) (e : Event) (eight : length (w .values) ≡ 8) where
       go : (b : Bool) → Counted w (unless b (record { answer = denied 9 0 false; next = w })
           (seeing w (viewAfter w (groupOf e) (planOf (w .values) e)) (verdict w e)))
       go true = counted-by (verdict w e)
-      go false = record { total = sym (add-zero (sum (w .values))); limit = refl }
+      go false = record { total = sym (add-zero (counterSum (w .values))); limit = refl }
 
 -- it is rejected for the limit exactly if its group is sound and the values are over the limit
 seeing-answer : (w w′ : View) (a : Answer) → seeing w w′ a .answer ≡ a
@@ -109,11 +109,11 @@ module _ (tm : Terms) (x : State) (evs : List Event) (t : Trace) (r : readTrace 
     pub good : readTrace tm (stateAt tm x evs n .buf) (stateAt tm x evs n .len) ≡ accepted trace
     pub places : trace .places ≡ t .places
     pub limit : value (trace .values) MaxActivities ≡ value (t .values) MaxActivities
-    pub total : sum (trace .values) ≡ sum (t .values) + acceptedIn tm x evs n
+    pub total : counterSum (trace .values) ≡ counterSum (t .values) + acceptedIn tm x evs n
 
   held-zero : Held 0
   unfolding acceptedIn
-  held-zero = record { trace = t; good = rw (state-zero tm x evs) r; places = refl; limit = refl; total = sym (add-zero (sum (t .values))) }
+  held-zero = record { trace = t; good = rw (state-zero tm x evs) r; places = refl; limit = refl; total = sym (add-zero (counterSum (t .values))) }
 
   held-suc : (n : ℕ) → n < length evs → Held n → Held (suc n)
   unfolding acceptedIn answerAt
@@ -128,9 +128,9 @@ module _ (tm : Terms) (x : State) (evs : List Event) (t : Trace) (r : readTrace 
         good = rw (state-suc tm x evs n h) (f .one-read);
         places = f .same-places ∙ k .places;
         limit = ap (λ (l : List ℕ). value l MaxActivities) v ∙ c .limit ∙ k .limit;
-        total = ap sum v ∙ c .total
-            ∙ ap (λ (a : Answer). sum (k .trace .values) + cond (isDone a) 1 0) (sym (f .one-answer))
-            ∙ ap (λ (y : ℕ). y + cond (isDone (answerAt tm x evs n)) 1 0) (k .total) ∙ add-assoc (sum (t .values)) _ _;
+        total = ap counterSum v ∙ c .total
+            ∙ ap (λ (a : Answer). counterSum (k .trace .values) + cond (isDone a) 1 0) (sym (f .one-answer))
+            ∙ ap (λ (y : ℕ). y + cond (isDone (answerAt tm x evs n)) 1 0) (k .total) ∙ add-assoc (counterSum (t .values)) _ _;
       }
 
   pub held : (n : ℕ) → n ≤ length evs → Held n

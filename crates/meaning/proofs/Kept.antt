@@ -9,21 +9,13 @@ use Rattle.meaning.specs.Names.{«MQCFT_INTEGER»}
 use Rattle.meaning.specs.Answer.{accepted}
 use Rattle.meaning.specs.Structure.{Row, judge, structureAt}
 use Rattle.meaning.proofs.Structures.{row-at, moved, Match, num-match, structure-match, judge-place, judge-integer}
-use Rattle.meaning.proofs.Walks.{Walks, In, here, there, in-nil, Tiles, tiles, keep}
+use Rattle.meaning.proofs.Walks.{Walks, In, here, there, in-nil, Tiles, tiles, keep, tiles-from}
 
 -- the structure r is the integer at q, or lies in front of it, or behind it
 pub data Clear (q : ℕ) (r : Row) : Type 0 where
   own : r .place ≡ q → r .kind ≡ «MQCFT_INTEGER» → Clear q r
   below : r .place + r .size ≤ q → Clear q r
   above : q + 16 ≤ r .place → Clear q r
-
-pub tiles-above : (s : Part) (p : ℕ) (rows : List Row) (q : ℕ) → Tiles s p rows q → (r : Row) → In r rows → p ≤ r .place
-unfolding Tiles
-tiles-above s p [] q h r i = absurd (in-nil i)
-tiles-above s p (x ∷ xs) q h r (here e) =
-    let f : x .place ≡ r .place = cc in
-    omega (arith, h .0 .at-place)
-tiles-above s p (x ∷ xs) q h r (there i) = omega (arith, tiles-above s (p + x .size) xs q (h .1) r i)
 
 pub tiles-clear : (s : Part) (p : ℕ) (rows : List Row) (q : ℕ) → Tiles s p rows q → (r₀ : Row) → In r₀ rows → r₀ .kind ≡ «MQCFT_INTEGER»
     → (r : Row) → In r rows → Clear (r₀ .place) r
@@ -32,11 +24,11 @@ tiles-clear s p [] q h r₀ i k r j = absurd (in-nil i)
 tiles-clear s p (x ∷ xs) q h r₀ (here e) k r (here f) = own (cc) (cc)
 tiles-clear s p (x ∷ xs) q h r₀ (here e) k r (there j) =
     let a : x .place ≡ r₀ .place = cc in
-    above (omega (arith, h .0 .at-place, h .0 .at-least, tiles-above s (p + x .size) xs q (h .1) r j))
+    above (omega (arith, h .0 .at-place, h .0 .at-least, tiles-from s (p + x .size) xs q (h .1) r j))
 tiles-clear s p (x ∷ xs) q h r₀ (there i) k r (here f) =
     let a : x .place ≡ r .place = cc in
     let b : x .size ≡ r .size = cc in
-    below (omega (arith, h .0 .at-place, tiles-above s (p + x .size) xs q (h .1) r₀ i))
+    below (omega (arith, h .0 .at-place, tiles-from s (p + x .size) xs q (h .1) r₀ i))
 tiles-clear s p (x ∷ xs) q h r₀ (there i) k r (there j) = tiles-clear s (p + x .size) xs q (h .1) r₀ i k r j
 
 -- s′ has the bytes of s from lo on, but for the four of the Value of the structure at q
@@ -86,4 +78,4 @@ module _ (s s′ : Part) (lo q : ℕ) (agree : Agree lo q s s′) where
   kept {p} {d} {n} {rows} {q′} l w r₀ i k e =
       keep s′ w (λ r p₁ d₁ j t.
       let g = row-at s p₁ d₁ r t in
-      kept-structure r p₁ d₁ (omega (arith, tiles-above s p rows q′ (tiles w) r j)) t (rw e at (tiles-clear s p rows q′ (tiles w) r₀ i k r j)))
+      kept-structure r p₁ d₁ (omega (arith, tiles-from s p rows q′ (tiles w) r j)) t (rw e at (tiles-clear s p rows q′ (tiles w) r₀ i k r j)))

@@ -12,7 +12,7 @@ use Rattle.meaning.specs.Bytes.{Part, num, splice}
 use Rattle.meaning.specs.Answer.{accepted}
 use Rattle.meaning.specs.Message.{headerType, command, parameterCount, partOf, scan, check, tally}
 use Rattle.meaning.specs.Listing.{ascii, digits, decimal, column, headerLine, rowLine, rowLines, endLine, listingText, listing}
-use Rattle.meaning.specs.Trace.{Terms, Trace, sheetOk, inRange, different, absent, readTrace, read}
+use Rattle.meaning.specs.Trace.{Terms, Trace, sheetOk, inRange, identifiersOk, absent, readTrace, read}
 use Rattle.meaning.specs.Compose.{headerFields, traceHeaderFields, groupFields, composedFields, composed, valuesOk, composeAnswer, composedBuffer, compose}
 use Rattle.meaning.proofs.Tests.{and-true}
 use Rattle.meaning.proofs.Numbers.{length-words, number-words}
@@ -104,7 +104,7 @@ abbrev pub madeUp : Terms
 madeUp = record { sheet = 1201 ∷ 1202 ∷ 1203 ∷ 1204 ∷ 1205 ∷ 1206 ∷ 1207 ∷ 1208 ∷ [] }
 
 pub made-up-sound : sheetOk (madeUp .sheet) ≡ true
-unfolding sheetOk different absent
+unfolding sheetOk identifiersOk absent
 made-up-sound = refl
 
 pub documentListing : List ℕ

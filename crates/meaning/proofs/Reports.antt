@@ -7,13 +7,13 @@ use native.Mathlib.Nat.{zero-add}
 use native.Mathlib.Omega.{arith}
 use lib.ListN.{length, getD, take, length-append}
 use lib.Seq.{getD-append-add}
-use Rattle.meaning.specs.Bytes.{Part, words, splice}
+use Rattle.meaning.specs.Bytes.{Part, words, splice, whole}
 use Rattle.meaning.specs.Answer.{accepted}
 use Rattle.meaning.specs.Structure.{Row}
 use Rattle.meaning.specs.Message.{field, headerType, command, parameterCount, headerOk, partOf, scan, check}
 use Rattle.meaning.specs.Trace.{Terms, Trace, tops, groupsIn, groups, readTrace}
 use Rattle.meaning.specs.Compose.{headerFields, reportHeaderFields}
-use Rattle.meaning.specs.Event.{State, Event, done, Done, Plan, planOf, doneBy, groupOf, lent, reportOf, applied, event}
+use Rattle.meaning.specs.Event.{State, Event, done, Done, Plan, planOf, doneBy, groupOf, reportOf, applied, event}
 use Rattle.meaning.specs.Demand3.{isDone}
 use Rattle.meaning.proofs.Numbers.{length-words, number-words, number-in}
 use Rattle.meaning.proofs.Splices.{length-splice, take-splice}
@@ -72,7 +72,7 @@ module _ (r g : List ℕ) (sg : Group g) (room : 36 + length g ≤ length r) whe
   unfolding reportHeaderFields headerFields
   one-count = header-word 8 (omega arith) (omega arith)
 
-  match : Match (lent g) 0 m 36 (length g)
+  match : Match (whole g) 0 m 36 (length g)
   unfolding reportOf
   match = record {
     run = λ i h.

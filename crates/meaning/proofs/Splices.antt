@@ -1,17 +1,17 @@
--- Bytes written over a list, and numbers read from it.
+-- Splices: bytes written over a list, in one step or in several, and numbers read from it.
 use mathlib.Core.Path.{_≡_, refl, sym, ap, _∙_}
 use mathlib.Core.Bool.{Bool, true, false}
 use mathlib.Core.List.{List, [], _∷_, _++_, append-assoc, append-nil}
-use Prim.Native.Nat.{ℕ, _+_, _-_, _≤_, _<_}
-use native.Mathlib.Nat.{zero-add}
+use Prim.Native.Nat.{ℕ, suc, _+_, _*_, _-_, _≤_, _<_}
+use native.Mathlib.Nat.{zero-add, add-zero}
 use native.Mathlib.Omega.{arith}
-use native.Mathlib.Numerals.{towards-suc}
-use lib.ListN.{length, set, getD, take, drop, length-append, length-drop, List·getD-append, drop-of-length-le}
+use native.Mathlib.Numerals.{towards-suc, add-one}
+use lib.ListN.{length, set, getD, take, drop, length-append, length-drop, List·getD-append, take-append-drop, drop-of-length-le}
 use lib.Dec.{leb, ltb}
 use borrow.Author.Tests.{ltb-true, ltb-false, leb-true, leb-false}
-use lib.Seq.{length-take-le, getD-append-add, getD-take, getD-drop, sets-eq, paste, take-length, take-at, drop-at, drop-drop, ext-getD, take-all}
-use Rattle.meaning.specs.Bytes.{Part, number, num, bytes4, splice, store}
-use Rattle.meaning.proofs.Numbers.{number-bytes4, length-bytes4, Run, number-match, number-same}
+use lib.Seq.{length-take-le, getD-append-add, getD-take, getD-drop, set-split, take-set-le, sets-eq, paste, take-length, take-at, drop-at, drop-drop, ext-getD, take-all}
+use Rattle.meaning.specs.Bytes.{number, bytes4, words, splice}
+use Rattle.meaning.proofs.Numbers.{number-bytes4, length-bytes4, length-words, Run, number-match}
 
 -- what straight-line stores and a copying loop leave
 pub splice-stores : (d : List ℕ) (at x y z w : ℕ) → at + 4 ≤ length d → set (set (set (set d at x) (at + 1) y) (at + 2) z) (at + 3) w ≡ splice d at (x ∷ y ∷ z ∷ w ∷ [])
@@ -90,40 +90,6 @@ splice-both d d′ at s f f′ i h = go (leb at i) (ltb i (at + length s)) refl 
         let k = leb-false at i p in
         splice-before d at s f i k ∙ h (λ x. omega (arith, x .0)) ∙ sym (splice-before d′ at s f′ i k)
 
--- a number written as a part has its numbers
-module _ (s : Part) (b : List ℕ) (at v : ℕ) (fits : at + 4 ≤ length b) where
-  four-fit : at + length (bytes4 v) ≤ length b
-  four-fit = omega (arith, length-bytes4 v)
-
-  pub length-store : length (store s b at v) ≡ length b
-  unfolding store
-  length-store = length-splice b at (bytes4 v) four-fit
-
-  pub store-same : (i : ℕ) → ((at ≤ i) × (i < at + 4) → ⊥) → getD (store s b at v) i 0 ≡ getD b i 0
-  unfolding store
-  store-same i h = go (leb at i) refl
-    where
-      go : (x : Bool) → leb at i ≡ x → getD (splice b at (bytes4 v)) i 0 ≡ getD b i 0
-      go false e = splice-before b at (bytes4 v) four-fit i (leb-false _ _ e)
-      go true e =
-          let l = leb-true at i e in
-          let k : ¬ (i < at + 4) = λ x. h (l, x) in
-          splice-after b at (bytes4 v) four-fit i (omega (arith, length-bytes4 v))
-
-  pub num-store : (m : Part) → v < 4294967296 → ((i : ℕ) → at ≤ i → i < at + 4 → getD (m .bytes) i 0 ≡ getD (store s b at v) i 0) → num m at ≡ v
-  unfolding store
-  num-store m h e =
-      number-same (m .bytes) (splice b at (bytes4 v)) at e ∙ number-splice b at v fits h
-
-pub store-as : (s s′ : Part) (b : List ℕ) (at v v′ : ℕ) → v ≡ v′ → store s b at v ≡ store s′ b at v′
-unfolding store
-store-as s s′ b at v v′ e = cc
-
-pub store-both : (s : Part) (b b′ : List ℕ) (at v : ℕ) → at + 4 ≤ length b → at + 4 ≤ length b′ → (i : ℕ) → getD b i 0 ≡ getD b′ i 0
-    → getD (store s b at v) i 0 ≡ getD (store s b′ at v) i 0
-unfolding store
-store-both s b b′ at v f f′ i h = splice-both b b′ at (bytes4 v) (four-fit s b at v f) (four-fit s b′ at v f′) i (λ x. h)
-
 -- a list cut behind what is written, and the rest behind it
 pub take-splice-in : (n : ℕ) (d : List ℕ) (at : ℕ) (s : List ℕ) → at + length s ≤ n → n ≤ length d → take n (splice d at s) ≡ splice (take n d) at s
 take-splice-in n d at s h k =
@@ -142,14 +108,6 @@ drop-splice-behind n d at s h k =
     ap (λ (y : ℕ). drop y (splice d at s)) e ∙ sym (drop-drop x (at + length s) (splice d at s)) ∙ ap (drop x) (drop-splice d at s f)
     ∙ drop-drop x (at + length s) d ∙ ap (λ (y : ℕ). drop y d) (sym e)
 
-pub take-store : (n : ℕ) (s : Part) (b : List ℕ) (at v : ℕ) → at + 4 ≤ n → n ≤ length b → take n (store s b at v) ≡ store s (take n b) at v
-unfolding store
-take-store n s b at v h k = take-splice-in n b at (bytes4 v) (omega (arith, length-bytes4 v)) k
-
-pub drop-store : (n : ℕ) (s : Part) (b : List ℕ) (at v : ℕ) → at + 4 ≤ n → n ≤ length b → drop n (store s b at v) ≡ drop n b
-unfolding store
-drop-store n s b at v h k = drop-splice-behind n b at (bytes4 v) (omega (arith, length-bytes4 v)) k
-
 -- a part lent from n on, which came back with s at its start
 splice-drop : (d : List ℕ) (n : ℕ) (s : List ℕ) → take n d ++ splice (drop n d) 0 s ≡ splice d n s
 unfolding splice
@@ -161,3 +119,66 @@ splice-lent d n s =
     let e : length (drop n d) ≡ length d - n = length-drop n d in
     let le : length (drop n d) ≤ length d - n = omega arith in
     rw (take-all (length d - n) (drop n d) le, drop-of-length-le (drop n d) le, append-nil) (splice-drop d n s)
+
+-- IN SEVERAL STEPS
+-- nothing written
+pub splice-none : (d : List ℕ) (at : ℕ) → splice d at [] ≡ d
+unfolding splice
+splice-none d at = rw (add-zero, append-nil, take-append-drop)
+
+-- one byte
+pub splice-one : (d : List ℕ) (at v : ℕ) → at < length d → set d at v ≡ splice d at (v ∷ [])
+unfolding splice
+splice-one d at v h = rw (add-one) (set-split d at v h ∙ simp append-assoc)
+
+-- a second run of bytes behind the first
+pub splice-next : (d : List ℕ) (at : ℕ) (xs : List ℕ) (n : ℕ) (ys : List ℕ) → n ≡ at + length xs → n + length ys ≤ length d
+    → splice (splice d at xs) n ys ≡ splice d at (xs ++ ys)
+unfolding splice
+splice-next d at xs n ys e h =
+    let front : length (take at d) ≡ at = length-take-le at d (omega arith) in
+    let p : length (take at d ++ xs) ≡ n = length-append (take at d) xs ∙ omega arith in
+    let k : at + (length xs + length ys) ≡ at + length xs + length ys = omega arith in
+    rw (
+      take-at (take at d ++ xs) (drop (at + length xs) d) n p,
+      ← drop-drop (length ys) n (take at d ++ xs ++ drop (at + length xs) d),
+      drop-at (take at d ++ xs) (drop (at + length xs) d) n p,
+      drop-drop,
+      length-append,
+      k,
+    ) (simp append-assoc)
+
+-- one byte behind what was written
+pub splice-push : (d : List ℕ) (at : ℕ) (xs : List ℕ) (n v : ℕ) → n ≡ at + length xs → n < length d
+    → set (splice d at xs) n v ≡ splice d at (xs ++ v ∷ [])
+splice-push d at xs n v e h =
+    splice-one (splice d at xs) n v (omega (arith, length-splice d at xs (omega arith))) ∙ splice-next d at xs n (v ∷ []) e (omega arith)
+
+-- one byte written before the bytes in front of it
+pub splice-last : (d : List ℕ) (at : ℕ) (xs : List ℕ) (n v : ℕ) → n ≡ at + length xs → n < length d
+    → splice (set d n v) at xs ≡ splice d at (xs ++ v ∷ [])
+unfolding splice
+splice-last d at xs n v e h =
+    let k : at + (length xs + 1) ≡ suc n = omega arith in
+    let s : drop n (set d n v) ≡ v ∷ drop (suc n) d = ap (drop n) (set-split d n v h) ∙ drop-at (take n d) (v ∷ drop (suc n) d) n (length-take-le n d (omega arith)) in
+    rw (take-set-le at d n v (omega arith), ← e, s, length-append, k) (simp append-assoc)
+
+-- NUMBERS behind numbers
+pub words-append : (xs ys : List ℕ) → words (xs ++ ys) ≡ words xs ++ words ys
+unfolding words
+words-append [] ys = refl
+words-append (x ∷ xs) ys = ap (λ (l : List ℕ). bytes4 x ++ l) (words-append xs ys) ∙ sym (append-assoc (bytes4 x) (words xs) (words ys))
+
+pub words-one : (x : ℕ) → words (x ∷ []) ≡ bytes4 x
+unfolding words
+words-one x = append-nil (bytes4 x)
+
+pub splice-words : (s : List ℕ) (at : ℕ) (xs : List ℕ) (n : ℕ) (ys : List ℕ) → n ≡ at + 4 * length xs → n + 4 * length ys ≤ length s
+    → splice (splice s at (words xs)) n (words ys) ≡ splice s at (words (xs ++ ys))
+splice-words s at xs n ys e h =
+    rw (words-append xs ys) (splice-next s at (words xs) n (words ys) (omega (arith, length-words xs)) (omega (arith, length-words ys)))
+
+-- one number more
+pub splice-number : (s : List ℕ) (at : ℕ) (xs : List ℕ) (n y : ℕ) → n ≡ at + 4 * length xs → n + 4 ≤ length s
+    → splice (splice s at (words xs)) n (bytes4 y) ≡ splice s at (words (xs ++ (y ∷ [])))
+splice-number s at xs n y e h = rw (← words-one y) (splice-words s at xs n (y ∷ []) e (omega arith))

@@ -7,6 +7,7 @@ use native.Mathlib.Omega.{arith}
 use lib.ListN.{length, length-append}
 use lib.Dec.{eqb}
 use borrow.Author.Tests.{eqb-true, eqb-false, ne-eqb}
+use Rattle.meaning.proofs.Tests.{bit}
 use Rattle.meaning.specs.Bytes.{Part}
 use Rattle.meaning.specs.Structure.{Row}
 use Rattle.meaning.specs.Message.{countOf, countsFrom}
@@ -18,14 +19,10 @@ unfolding countOf
 count-append k [] ys = omega arith
 count-append k (x ∷ xs) ys = omega (arith, count-append k xs ys)
 
-one-or-none : (b : Bool) → cond b 1 0 ≤ 1
-one-or-none true = omega arith
-one-or-none false = omega arith
-
 pub count-le : (k : ℕ) (rows : List Row) → countOf k rows ≤ length rows
 unfolding countOf
 count-le k [] = omega arith
-count-le k (r ∷ rs) = omega (arith, count-le k rs, one-or-none (eqb (r .kind) k))
+count-le k (r ∷ rs) = omega (arith, count-le k rs, bit (eqb (r .kind) k))
 
 -- each row takes 16 bytes or more
 pub rows-room : {s : Part} {p d n : ℕ} {rows : List Row} {q : ℕ} → Walks s p d n rows q → p + length rows * 16 ≤ q

@@ -64,3 +64,8 @@ then-accepted (refused n p) go y e = absurd (clash (cc))
 pub then-refused : {A B : Type 0} (r : Result A) (f : A → B) (k q : ℕ) → andThen r (λ x. accepted (f x)) ≡ refused k q → r ≡ refused k q
 then-refused (accepted x) f k q e = absurd (clash (cc))
 then-refused (refused k′ q′) f k q e = cc
+
+-- a flag is a bit
+pub bit : (b : Bool) → cond b 1 0 ≤ 1
+bit true = omega arith
+bit false = omega arith

@@ -55,14 +55,6 @@ pub direct-next : (x : Row) (xs ys : List Row) → x .depth ≡ 2 → Below 3 xs
 unfolding directIn
 direct-next x xs ys d h = rw (eq-eqb (x .depth) 2 d, direct-inside xs ys h) refl
 
--- every row stands at the walk's start or behind it
-pub tiles-from : (m : Part) (p : ℕ) (rows : List Row) (q : ℕ) → Tiles m p rows q → (r : Row) → In r rows → p ≤ r .place
-unfolding Tiles
-tiles-from m p (x ∷ xs) q h r (here e) =
-    let f : x .place ≡ r .place = cc in
-    omega (arith, h .0 .at-place)
-tiles-from m p (x ∷ xs) q h r (there i) = omega (arith, tiles-from m (p + x .size) xs q (h .1) r i)
-
 -- WHAT A TOP-LEVEL STRUCTURE IS: its row at its place, and the walk over what is inside it, which ends before `to`
 pub record TopAt (m : Part) (from to : ℕ) (t : Top) : Type 0 where
   pub next : ℕ

@@ -8,18 +8,19 @@ use lib.ListN.{length, getD}
 use lib.Seq.{getD-take}
 use lib.Dec.{ltb, eqb}
 use borrow.Author.Tests.{ltb-true, ltb-false, le-ltb, eqb-true}
+use Rattle.meaning.proofs.Stores.{length-store, store-as, store-both}
 use Rattle.meaning.specs.Bytes.{Part, store, bump}
 use Rattle.meaning.specs.Names.{MaxActivities}
 use Rattle.meaning.specs.Answer.{accepted, unless}
 use Rattle.meaning.specs.Structure.{Row}
 use Rattle.meaning.specs.Message.{parameterCount, countPlace, partOf}
 use Rattle.meaning.specs.Trace.{Terms, Trace, traceRoutes, directMembers, placesOf, value, valuePlace, valueAt, valuesAt, readTrace}
-use Rattle.meaning.specs.Event.{State, Event, discontinuity, activity, Answer, done, denied, Outcome, soundEvent, groupOf, Plan, reported, accumulated, planOf, sum, overLimit, decide, grown, grownIf, reportedIf, applied, decided, performed, leaving, onTrace, event}
+use Rattle.meaning.specs.Event.{State, Event, discontinuity, activity, Answer, done, denied, Outcome, soundEvent, groupOf, Plan, reported, accumulated, planOf, counterSum, overLimit, decide, grown, grownIf, reportedIf, applied, decided, performed, leaving, onTrace, event}
 use Rattle.meaning.specs.Demand3.{isDone, isLimit, larger, Alike}
 use Rattle.meaning.proofs.Tests.{and-true, and-false}
 use Rattle.meaning.proofs.Structures.{num-same}
 use Rattle.meaning.proofs.Walks.{walks-one, walks-as}
-use Rattle.meaning.proofs.Splices.{length-splice, splice-both, length-store, store-as, store-both}
+use Rattle.meaning.proofs.Splices.{length-splice, splice-both}
 use Rattle.meaning.proofs.Sound.{Sound, sound}
 use Rattle.meaning.proofs.Changed.{Changed, Lies, lies, value-kept, value-of, tree-kept}
 use Rattle.meaning.proofs.Plans.{plan-ok, allowed, decide-limit, leaving-answer}
@@ -90,7 +91,7 @@ Same v w = (j : ℕ) → j < 8 → (j ≡ 4 → ⊥) → getD v j 0 ≡ getD w j
 
 pub larger-within : (v w : List ℕ) → Same v w → larger (value v MaxActivities) (value w MaxActivities) ≡ true
     → overLimit v ≡ false → overLimit w ≡ false
-unfolding larger overLimit sum
+unfolding larger overLimit counterSum
 larger-within v w same l o =
     let a = and-true (ltb 0 (getD v 4 0)) _ l in
     let x1 = same 1 (omega arith) (λ q. omega arith) in

@@ -170,6 +170,14 @@ tiles-row s p (x ∷ xs) q h r (here e) =
     subst (λ (y : Row). RowAt s (y .place) (y .depth) y) (sym e) (rw (h .0 .at-place) at (h .0))
 tiles-row s p (x ∷ xs) q h r (there i) = tiles-row s (p + x .size) xs q (h .1) r i
 
+-- every row stands at the walk's start or behind it
+pub tiles-from : (m : Part) (p : ℕ) (rows : List Row) (q : ℕ) → Tiles m p rows q → (r : Row) → In r rows → p ≤ r .place
+unfolding Tiles
+tiles-from m p (x ∷ xs) q h r (here e) =
+    let f : x .place ≡ r .place = cc in
+    omega (arith, h .0 .at-place)
+tiles-from m p (x ∷ xs) q h r (there i) = omega (arith, tiles-from m (p + x .size) xs q (h .1) r i)
+
 -- the walk over another part whose structures at these rows are the same
 pub keep : {s : Part} {p d n : ℕ} {rows : List Row} {q : ℕ} (s′ : Part) → Walks s p d n rows q
     → ((r : Row) (p d : ℕ) → In r rows → structureAt s p d ≡ accepted r → structureAt s′ p d ≡ accepted r) → Walks s′ p d n rows q

@@ -31,6 +31,10 @@ pub record Part : Type 0 where
   pub start : ℕ
   pub end : ℕ
 
+-- the part that all bytes of a list are
+abbrev pub whole : List ℕ → Part
+whole s = record { bytes = s; start = 0; end = length s }
+
 -- the number at a place of a part
 abbrev pub num : Part → ℕ → ℕ
 num s at = number (s .bytes) at
@@ -39,7 +43,8 @@ num s at = number (s .bytes) at
 unfoldable pub word : Part → ℕ → ℕ → ℕ
 word s behind at = cond (leb (at + 4) behind) (num s at) 0
 
--- the bytes b with the number v at `at`, written as the part s has its numbers
+-- the bytes b with the number v at `at`, written as the part s has its numbers. All parts have them alike, highest byte
+-- first, so that nothing of s is used.
 unfoldable pub store : Part → List ℕ → ℕ → ℕ → List ℕ
 store s b at v = splice b at (bytes4 v)
 

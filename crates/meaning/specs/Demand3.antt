@@ -8,7 +8,7 @@ use lib.Dec.{ltb, eqb}
 use Rattle.meaning.specs.Names.{MaxActivities, «MQROUTE_UNLIMITED_ACTIVITIES», «MQFB_MAX_ACTIVITIES»}
 use Rattle.meaning.specs.Answer.{Result, accepted, refused}
 use Rattle.meaning.specs.Trace.{Terms, Trace, value, valuePlace, readTrace}
-use Rattle.meaning.specs.Event.{State, Event, discontinuity, Answer, done, denied, event, sum, soundEvent}
+use Rattle.meaning.specs.Event.{State, Event, discontinuity, Answer, done, denied, event, counterSum, soundEvent}
 
 -- A TRACE of demand 3 is a state under the caller's terms; this is what Read makes of it
 abbrev pub readOf : Terms → State → Result Trace
@@ -32,7 +32,7 @@ placesIn (refused n p) = []
 
 -- the sum of the three counters that stand in the trace; its limit, 0 for none; the first of the limit's four bytes
 unfoldable pub sumOf : Terms → State → ℕ
-sumOf tm st = sum (valuesIn (readOf tm st))
+sumOf tm st = counterSum (valuesIn (readOf tm st))
 
 unfoldable pub limitOf : Terms → State → ℕ
 limitOf tm st = value (valuesIn (readOf tm st)) MaxActivities

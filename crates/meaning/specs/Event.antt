@@ -4,7 +4,7 @@ use mathlib.Core.Bool.{Bool, true, false, cond, not, _&&_, _||_}
 use mathlib.Core.List.{List, [], _++_}
 use lib.ListN.{length}
 use lib.Dec.{leb, ltb, eqb}
-use Rattle.meaning.specs.Bytes.{Part, num, words, splice, bump}
+use Rattle.meaning.specs.Bytes.{Part, whole, num, words, splice, bump}
 use Rattle.meaning.specs.Names.{mostBytes, mostCount, «MQCFT_GROUP», «MQGACF_ACTIVITY», «MQROUTE_DETAIL_LOW», «MQROUTE_DETAIL_MEDIUM», «MQROUTE_DETAIL_HIGH», «MQROUTE_ACCUMULATE_NONE», «MQROUTE_ACCUMULATE_AND_REPLY», «MQROUTE_UNLIMITED_ACTIVITIES», Detail, RecordedActivities, UnrecordedActivities, DiscontinuityCount, MaxActivities, Accumulate, badGroup, «MQFB_MAX_ACTIVITIES», counterFull, noRoom, reportTooShort}
 use Rattle.meaning.specs.Answer.{Result, accepted, refused, when, unless}
 use Rattle.meaning.specs.Walk.{Walked, walk}
@@ -34,17 +34,14 @@ pub data Event : Type 0 where
 
 -- THE LENT GROUP is a part of its own, which one sound group 8005 of depth 1 fills; of 16 to 65,500 bytes, so that it is a
 -- message with a report's header in front.
-abbrev pub lent : List ℕ → Part
-lent g = record { bytes = g; start = 0; end = length g }
-
 abbrev pub endsAt : ℕ → Result Walked → Bool
 endsAt n (accepted w) = eqb (w .next) n
 endsAt n (refused k p) = false
 
 unfoldable pub groupOk : List ℕ → Bool
 groupOk g =
-    leb 16 (length g) && (leb (length g) 65500 && (eqb (num (lent g) 0) «MQCFT_GROUP» && (eqb (num (lent g) 8) «MQGACF_ACTIVITY»
-    && endsAt (length g) (walk (lent g) 0 1 1))))
+    leb 16 (length g) && (leb (length g) 65500 && (eqb (num (whole g) 0) «MQCFT_GROUP» && (eqb (num (whole g) 8) «MQGACF_ACTIVITY»
+    && endsAt (length g) (walk (whole g) 0 1 1))))
 
 -- an event's group, and whether it is sound; a discontinuity needs none
 unfoldable pub groupOf : Event → List ℕ
@@ -108,12 +105,12 @@ pub data Answer : Type 0 where
   denied : ℕ → ℕ → Bool → Answer
 
 -- the three counters' sum, a whole number
-unfoldable pub sum : List ℕ → ℕ
-sum v = value v RecordedActivities + value v UnrecordedActivities + value v DiscontinuityCount
+unfoldable pub counterSum : List ℕ → ℕ
+counterSum v = value v RecordedActivities + value v UnrecordedActivities + value v DiscontinuityCount
 
 -- 10: the limit is not 0, and the counters' sum plus one is above it
 unfoldable pub overLimit : List ℕ → Bool
-overLimit v = ltb «MQROUTE_UNLIMITED_ACTIVITIES» (value v MaxActivities) && ltb (value v MaxActivities) (sum v + 1)
+overLimit v = ltb «MQROUTE_UNLIMITED_ACTIVITIES» (value v MaxActivities) && ltb (value v MaxActivities) (counterSum v + 1)
 
 unfoldable pub replyOwed : List ℕ → Bool
 replyOwed v = eqb (value v Accumulate) «MQROUTE_ACCUMULATE_AND_REPLY»

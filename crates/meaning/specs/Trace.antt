@@ -11,17 +11,18 @@ use Rattle.meaning.specs.Answer.{Result, accepted, refused, andThen, unl
 use Rattle.meaning.specs.Structure.{Row, small}
 use Rattle.meaning.specs.Message.{headerType, version, command, msgSeqNumber, control, compCode, reason, parameterCount, partOf, scan}
 
--- THE SHEET: eight numbers, no two alike, each from 1 up and below 2^31
+-- THE SHEET: eight identifiers
 unfoldable pub absent : ℕ → List ℕ → Bool
 absent x [] = true
 absent x (y ∷ ys) = not (eqb x y) && absent x ys
 
-unfoldable pub different : List ℕ → Bool
-different [] = true
-different (x ∷ xs) = leb 1 x && (small x && (absent x xs && different xs))
+-- each is from 1 up and below 2^31, and no two are alike
+unfoldable pub identifiersOk : List ℕ → Bool
+identifiersOk [] = true
+identifiersOk (x ∷ xs) = leb 1 x && (small x && (absent x xs && identifiersOk xs))
 
 unfoldable pub sheetOk : List ℕ → Bool
-sheetOk sheet = eqb (length sheet) attributes && different sheet
+sheetOk sheet = eqb (length sheet) attributes && identifiersOk sheet
 
 -- THE HEADER: Type 10, Version 3, Command 75, MsgSeqNumber 1, Control 1, CompCode 0, Reason 0, ParameterCount at least 1
 unfoldable pub traceFields : Part → Bool

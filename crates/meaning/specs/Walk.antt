@@ -14,6 +14,11 @@ pub record Walked : Type 0 where
 abbrev pub walked : List Row → ℕ → Result Walked
 walked rows next = accepted (record { rows = rows; next = next })
 
+-- the rows of a walk, none if it is refused
+abbrev pub rowsIn : Result Walked → List Row
+rowsIn (accepted w) = w .rows
+rowsIn (refused n p) = []
+
 -- one walk behind another: the second starts where the first ended
 abbrev pub followedBy : Result Walked → (ℕ → Result Walked) → Result Walked
 followedBy w go = andThen w (λ x. andThen (go (x .next)) (λ y. walked (x .rows ++ y .rows) (y .next)))

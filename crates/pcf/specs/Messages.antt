@@ -7,7 +7,7 @@ use Rattle.meaning.specs.Names.{badLength, badHeader}
 use Rattle.meaning.specs.Answer.{Result, accepted, refused, andThen, unless}
 use Rattle.meaning.specs.Structure.{Row}
 use Rattle.meaning.specs.Message.{parameterCount, headerOk, partOf, lengthOk, check, tallyOf, tally, Stepped as Step}
-use Rattle.answers.specs.Refusals.{refusal}
+use Rattle.refusals.specs.Refusals.{refusal}
 use Rattle.structure.specs.Rows.{rowOf}
 use Rattle.pcf.specs.declared.message.Checked.{Checked}
 use Rattle.pcf.specs.declared.message.Checked.the-variants as checked

@@ -1,5 +1,5 @@
 // Whole messages: check, tally, and the walk one structure at a time.
-use answers::Refusal;
+use refusals::Refusal;
 use structure::Found;
 use structure::Row;
 use structure::TWO_TO_31;
@@ -17,7 +17,7 @@ ghost use Rattle.meaning.specs.Bytes.{number};
 ghost use Rattle.meaning.specs.Answer.{andThen};
 ghost use Rattle.meaning.specs.Walk.{walk};
 ghost use Rattle.meaning.specs.Message.{headerOk, partOf, lengthOk, closed, check, step};
-ghost use Rattle.answers.specs.Refusals.{refusal};
+ghost use Rattle.refusals.specs.Refusals.{refusal};
 ghost use Rattle.pcf.specs.Messages.{checkedOf, opened, openedOf, steppedOf, Tallies, TalliedAs};
 
 // The most bytes of a message.

@@ -12,8 +12,8 @@ use Rattle.meaning.proofs.Tests.{then-accepted}
 use Rattle.meaning.proofs.Structures.{RowAt, row-at}
 use Rattle.meaning.proofs.Members.{members-shallow}
 use Rattle.meaning.proofs.Parts.{row-kind, row-parameter}
-use Rattle.answers.specs.Refusals.{refusal}
-use Rattle.answers.specs.declared.Refusal.{Refusal}
+use Rattle.refusals.specs.Refusals.{refusal}
+use Rattle.refusals.specs.declared.Refusal.{Refusal}
 use Rattle.structure.specs.Rows.{Reach, reachOf, extentOf}
 use Rattle.structure.specs.declared.structure.Extent.{Extent}
 use Rattle.structure.specs.declared.structure.Extent.the-variants.{Sound, Refused}

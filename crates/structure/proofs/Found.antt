@@ -2,8 +2,8 @@
 use mathlib.Core.Path.{_≡_, sym, ap, _∙_}
 use Rattle.meaning.specs.Answer.{Result, accepted}
 use Rattle.meaning.specs.Structure.{Row as Structure}
-use Rattle.answers.specs.Refusals.{refusal}
-use Rattle.answers.specs.declared.Refusal.{Refusal}
+use Rattle.refusals.specs.Refusals.{refusal}
+use Rattle.refusals.specs.declared.Refusal.{Refusal}
 use Rattle.structure.specs.Rows.{rowOf, foundOf}
 use Rattle.structure.specs.declared.structure.Row.{Row}
 use Rattle.structure.specs.declared.structure.Found.{Found}

@@ -5,7 +5,7 @@ use lib.Dec.{leb, eqb}
 use Rattle.meaning.specs.Bytes.{Part, word}
 use Rattle.meaning.specs.Answer.{Result, accepted, andThen}
 use Rattle.meaning.specs.Structure.{Row as Structure, lengthRule}
-use Rattle.answers.specs.Refusals.{refusal}
+use Rattle.refusals.specs.Refusals.{refusal}
 use Rattle.structure.specs.declared.structure.Row.{Row}
 use Rattle.structure.specs.declared.structure.Found.{Found}
 use Rattle.structure.specs.declared.structure.Found.the-variants.{Structure as found, Refused}

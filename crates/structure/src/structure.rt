@@ -2,7 +2,7 @@
 use crate::table::TWO_TO_31;
 use crate::table::length_kept;
 use crate::table::rule_of;
-use answers::Refusal;
+use refusals::Refusal;
 use wire::number_at;
 ghost use mathlib.Core.Path.{_≡_};
 ghost use mathlib.Core.Bool.{cond, not, _&&_};

@@ -5,8 +5,7 @@ use Prim.Native.Nat.{ℕ, _+_, _-_, _/_, _%_, _≤_, _<_}
 use native.Mathlib.Omega.{arith}
 use lib.ListN.{length, set, length-append}
 use Rattle.meaning.specs.Bytes.{splice}
-use Rattle.meaning.proofs.Splices.{length-splice}
-use Rattle.meaning.proofs.Joins.{splice-none, splice-next, splice-push, splice-last}
+use Rattle.meaning.proofs.Splices.{length-splice, splice-none, splice-next, splice-push, splice-last}
 use Rattle.meaning.proofs.Decimals.{lastDigits, last-none, last-step, length-last}
 use Rattle.text.specs.Wrote.{Room, Wrote}
 

@@ -4,8 +4,8 @@ use Prim.Native.Nat.{ℕ}
 use Rattle.meaning.specs.Answer.{Result, accepted, refused}
 use Rattle.meaning.specs.Trace.{Trace}
 use Rattle.meaning.proofs.Tests.{clash}
-use Rattle.answers.specs.declared.Refusal.{Refusal}
-use Rattle.answers.specs.Refusals.{numberOf, placeOf, refusal}
+use Rattle.refusals.specs.declared.Refusal.{Refusal}
+use Rattle.refusals.specs.Refusals.{numberOf, placeOf, refusal}
 use Rattle.trace.specs.Locations.{Done, done, answerOf, Attributes, located, locatedOf}
 use Rattle.trace.specs.declared.location.Answer.the-variants.{Found, Refused}
 use Rattle.trace.specs.declared.location.Located.{Located}

@@ -11,20 +11,20 @@ use Rattle.meaning.specs.Bytes.{Part, number, num}
 use Rattle.meaning.specs.Names.{«MQGACF_TRACE_ROUTE», «MQGACF_ACTIVITY», badAttribute, badSheet, noTraceHeader, noTraceRoute, leftOver}
 use Rattle.meaning.specs.Answer.{Result, accepted, refused, andThen, unless}
 use Rattle.meaning.specs.Structure.{Row}
-use Rattle.meaning.specs.Walk.{Walked, walked, walk}
+use Rattle.meaning.specs.Walk.{Walked, walked, walk, rowsIn}
 use Rattle.meaning.specs.Message.{partOf, headerOk, lengthOk, closed, scan}
 use Rattle.meaning.specs.Trace.{Terms, Trace, sheetOk, traceFields, traceHeader, Top, groups, traceRoutes, directIn, directMembers, eachOnce, placesOf, valuesAt, inRange, readMembers, readRows, readTrace}
 use Rattle.meaning.specs.Activity.{noGroup}
 use Rattle.meaning.specs.Compose.{headerFields, traceHeaderFields}
 use Rattle.meaning.proofs.Tests.{clash, and-true, and-false}
 use Rattle.meaning.proofs.Scans.{sized, scan-walk}
-use Rattle.meaning.proofs.Walks.{Walks, walks, walks-as, walk-of, in-nil, tiles, tiles-row}
+use Rattle.meaning.proofs.Walks.{Walks, walks, walks-as, walk-of, in-nil, tiles, tiles-row, tiles-from}
 use Rattle.meaning.proofs.Parts.{num-part}
-use Rattle.meaning.proofs.Tops.{tiles-from, TopAt, all-at, all-groups, tops-at}
+use Rattle.meaning.proofs.Tops.{TopAt, all-at, all-groups, tops-at}
 use Rattle.compose.specs.Headers.{fieldsOf, startsWith}
 use Rattle.trace.specs.Passing.{isSound}
 use Rattle.trace.specs.Groups.{groupOf, counted, Surveyed, surveyed}
-use Rattle.trace.specs.Locations.{Within, rowsIn, stop, found, attributesBy, attributesIn, judgedIn, Outcome, traced, located}
+use Rattle.trace.specs.Locations.{Within, stop, found, attributesBy, attributesIn, judgedIn, Outcome, traced, located}
 use Rattle.trace.specs.declared.groups.Group.{Group}
 use Rattle.trace.specs.declared.groups.Counted.{Counted}
 use Rattle.compose.specs.declared.header.Kind.the-variants.{Trace as trace}

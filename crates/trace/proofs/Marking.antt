@@ -12,7 +12,7 @@ use Rattle.meaning.specs.Bytes.{Part, number}
 use Rattle.meaning.specs.Names.{«MQCFT_INTEGER»}
 use Rattle.meaning.specs.Answer.{Result, accepted, refused, andThen, consIf}
 use Rattle.meaning.specs.Structure.{Row}
-use Rattle.meaning.specs.Walk.{Walked, walked, walk}
+use Rattle.meaning.specs.Walk.{Walked, walked, walk, rowsIn}
 use Rattle.meaning.specs.Message.{partOf}
 use Rattle.meaning.specs.Trace.{isDirect, directIn, named, oneInteger, eachOnce, placeOfFirst, placesOf, valueAt, valuesAt}
 use Rattle.meaning.proofs.Tests.{clash, and-true}
@@ -24,7 +24,6 @@ use Rattle.meaning.proofs.Attributes.{getD-map, once-at}
 use Rattle.meaning.proofs.Tops.{direct-next}
 use Rattle.trace.specs.Passing.{passed, behindOf}
 use Rattle.trace.specs.Marks.{onto, noted, notedIn, markFrom, Marked, allFound, InReach}
-use Rattle.trace.specs.Locations.{rowsIn}
 use Rattle.attributes.proofs.Lists.{rest-none, rest-next}
 use Rattle.trace.proofs.Turns.{Over, walk-over}
 use Rattle.trace.proofs.Skipping.{behind-over}

@@ -14,8 +14,8 @@ use Rattle.meaning.proofs.Fuel.{walk-zero}
 use Rattle.structure.specs.Rows.{rowOf}
 use Rattle.pcf.specs.Messages.{steppedOf}
 use Rattle.walk.proofs.Turns.{unfolded, walk-on}
-use Rattle.answers.specs.declared.Refusal.{Refusal}
-use Rattle.answers.specs.Refusals.{refusal}
+use Rattle.refusals.specs.declared.Refusal.{Refusal}
+use Rattle.refusals.specs.Refusals.{refusal}
 use Rattle.structure.specs.declared.structure.Row.{Row as Found·Row}
 use Rattle.pcf.specs.declared.message.Stepped.{Stepped as Steps}
 use Rattle.pcf.specs.declared.message.Stepped.the-variants as steps

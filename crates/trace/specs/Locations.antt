@@ -2,17 +2,17 @@
 use Prim.Native.Nat.{ℕ, _≤_}
 use mathlib.Core.Path.{_≡_}
 use mathlib.Core.Bool.{true, _&&_}
-use mathlib.Core.List.{List, []}
+use mathlib.Core.List.{List}
 use lib.ListN.{length, replicate}
 use lib.Dec.{eqb}
 use Rattle.meaning.specs.Bytes.{Part, number}
 use Rattle.meaning.specs.Names.{attributes, noTraceHeader, noTraceRoute, badAttribute, «MQGACF_ACTIVITY»}
 use Rattle.meaning.specs.Answer.{Result, accepted, refused, unless}
 use Rattle.meaning.specs.Structure.{Row}
-use Rattle.meaning.specs.Walk.{Walked, walk}
+use Rattle.meaning.specs.Walk.{rowsIn, walk}
 use Rattle.meaning.specs.Message.{partOf, headerOk}
 use Rattle.meaning.specs.Trace.{traceHeader, directIn, eachOnce, placesOf, valuesAt, inRange, Trace}
-use Rattle.answers.specs.Refusals.{refusal}
+use Rattle.refusals.specs.Refusals.{refusal}
 use Rattle.trace.specs.Passing.{Known}
 use Rattle.trace.specs.Groups.{noGroupYet, counted}
 use Rattle.trace.specs.declared.groups.Group.{Group}
@@ -65,11 +65,6 @@ traced n (refused k p) = stop k p
 
 abbrev pub tracedOf : Traced → Outcome
 tracedOf t = record { answer = answerOf (t .answer); places = t .places; values = t .values; activity = t .activity }
-
--- the rows of a walk, none if it is refused
-abbrev pub rowsIn : Result Walked → List Row
-rowsIn (accepted w) = w .rows
-rowsIn (refused k p) = []
 
 -- 8, by the direct members
 unfoldable pub attributesBy : List ℕ → Part → List Row → Group → Outcome

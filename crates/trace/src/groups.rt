@@ -1,6 +1,6 @@
 // The top-level groups of a message: the TraceRoute group, and the n-th Activity group.
 use crate::passing::pass;
-use answers::Refusal;
+use refusals::Refusal;
 use compose::MQGACF_TRACE_ROUTE;
 use pcf::Stepped;
 use structure::MQCFT_GROUP;
@@ -11,7 +11,7 @@ ghost use Prim.Native.Nat.{_+_, _≤_, _<_};
 ghost use lib.ListN.{length};
 ghost use Rattle.meaning.specs.Walk.{walk};
 ghost use Rattle.meaning.specs.Message.{partOf};
-ghost use Rattle.answers.specs.Refusals.{refusal};
+ghost use Rattle.refusals.specs.Refusals.{refusal};
 ghost use Rattle.structure.specs.Rows.{rowOf};
 ghost use Rattle.trace.specs.Groups.{noGroupYet, noneYet, countRow, Countable, surveyOf, surveyed};
 

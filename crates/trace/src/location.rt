@@ -6,7 +6,7 @@ use crate::groups::survey;
 use crate::members::all_found;
 use crate::members::marks_of;
 use crate::members::values_at;
-use answers::Refusal;
+use refusals::Refusal;
 use attributes::in_range;
 use attributes::sheet_ok;
 use compose::Kind;
@@ -18,7 +18,7 @@ use wire::number_at;
 ghost use mathlib.Core.Path.{_≡_};
 ghost use Rattle.meaning.specs.Message.{partOf};
 ghost use Rattle.meaning.specs.Trace.{readTrace};
-ghost use Rattle.answers.specs.Refusals.{numberOf, placeOf};
+ghost use Rattle.refusals.specs.Refusals.{numberOf, placeOf};
 ghost use Rattle.attributes.specs.Terms.{termsOf};
 ghost use Rattle.trace.specs.Locations.{Within, Headed, stop, tracedOf, attributesIn, judgedIn, traced, locatedOf, located};
 

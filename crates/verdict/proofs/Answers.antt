@@ -9,7 +9,7 @@ use lib.Dec.{leb, ltb}
 use borrow.Author.Tests.{le-leb, lt-leb, lt-ltb, le-ltb, eq-eqb, ne-eqb, leb-true, leb-false}
 use Rattle.meaning.specs.Names.{mostCount, mostBytes}
 use Rattle.meaning.specs.Trace.{value}
-use Rattle.meaning.specs.Event.{done, denied, Plan, sum, overLimit, replyOwed, reportLength, doneBy, decide}
+use Rattle.meaning.specs.Event.{done, denied, Plan, counterSum, overLimit, replyOwed, reportLength, doneBy, decide}
 
 -- not at most is above
 pub not-leb : (a b : ℕ) → ltb b a ≡ not (leb a b)
@@ -20,7 +20,7 @@ not-leb a b = go (leb a b) refl
     go false e = lt-ltb b a (leb-false a b e)
 
 -- THE LIMIT, from the limit and the sum
-module _ (v : List ℕ) (limit total : ℕ) (l : limit ≡ getD v 4 0) (s : total ≡ sum v) where
+module _ (v : List ℕ) (limit total : ℕ) (l : limit ≡ getD v 4 0) (s : total ≡ counterSum v) where
   pub no-limit : limit ≡ 0 → false ≡ overLimit v
   unfolding overLimit
   no-limit z = rw (le-ltb 0 (getD v 4 0) (omega arith)) refl

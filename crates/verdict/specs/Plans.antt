@@ -5,7 +5,7 @@ use mathlib.Core.Bool.{Bool}
 use mathlib.Core.List.{List}
 use Rattle.meaning.specs.Names.{RecordedActivities, UnrecordedActivities, DiscontinuityCount}
 use Rattle.meaning.specs.Event.{Level as Rank, low, medium, high, Settings as Manager, Event, discontinuity, activity, Plan as Due, planOf, Done as Told, Answer as Said, done, denied}
-use Rattle.answers.specs.Refusals.{numberOf, placeOf, owed}
+use Rattle.refusals.specs.Refusals.{numberOf, placeOf, owed}
 use Rattle.verdict.specs.declared.plan.Level.{Level}
 use Rattle.verdict.specs.declared.plan.Level.the-variants.{Low, Medium, High}
 use Rattle.verdict.specs.declared.plan.Settings.{Settings}

@@ -2,7 +2,7 @@
 use crate::plan::Counter;
 use crate::plan::Plan;
 use crate::plan::index_of;
-use answers::Refusal;
+use refusals::Refusal;
 use attributes::ACCUMULATE;
 use attributes::DISCONTINUITY_COUNT;
 use attributes::MAX_ACTIVITIES;
@@ -16,7 +16,7 @@ ghost use mathlib.Core.Bool.{not, _&&_, cond};
 ghost use Prim.Native.Nat.{_+_, _≤_, _<_};
 ghost use lib.Dec.{leb};
 ghost use Rattle.meaning.specs.Names.{mostBytes};
-ghost use Rattle.meaning.specs.Event.{sum, overLimit, replyOwed, reportLength, doneBy, decide as decideOn};
+ghost use Rattle.meaning.specs.Event.{counterSum, overLimit, replyOwed, reportLength, doneBy, decide as decideOn};
 ghost use Rattle.verdict.specs.Plans.{planned, doneOf, answerOf};
 
 const MOST_COUNT: u32 = 2147483647;
@@ -44,7 +44,7 @@ fn wide(x: u32) -> u64
 
 // The three counters' sum, which 32 bits would not hold.
 fn total(values: [u32; 8]) -> u64
-    ensures { λ r. ⌜ (r ≡ sum values) × (r < 12884901888) ⌝ }
+    ensures { λ r. ⌜ (r ≡ counterSum values) × (r < 12884901888) ⌝ }
 {
     wide(values[RECORDED_ACTIVITIES])
         + wide(values[UNRECORDED_ACTIVITIES])

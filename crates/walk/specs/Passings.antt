@@ -3,7 +3,7 @@ use Prim.Native.Nat.{ℕ}
 use lib.ListN.{length}
 use Rattle.meaning.specs.Answer.{Result, accepted, andThen}
 use Rattle.meaning.specs.Walk.{Walked as Rows}
-use Rattle.answers.specs.Refusals.{refusal}
+use Rattle.refusals.specs.Refusals.{refusal}
 use Rattle.walk.specs.declared.passing.Passed.{Passed}
 use Rattle.walk.specs.declared.passing.Passed.the-variants.{Behind, Refused}
 

@@ -6,7 +6,7 @@ use Rattle.meaning.specs.Answer.{Result, accepted, refused}
 use Rattle.meaning.specs.Structure.{Row}
 use Rattle.meaning.specs.Walk.{Walked as Rows}
 use Rattle.meaning.specs.Message.{countOf, types}
-use Rattle.answers.specs.Refusals.{refusal}
+use Rattle.refusals.specs.Refusals.{refusal}
 use Rattle.walk.specs.declared.tallying.Ended.{Ended}
 use Rattle.walk.specs.declared.tallying.Ended.the-variants.{Behind, Refused}
 use Rattle.walk.specs.declared.tallying.Walked.{Walked}

@@ -1,6 +1,6 @@
 // Passing over structures and all that is inside them: the walk without the counts by type, for all who only ask where it
 // ends. To carry an array into and out of each call takes longer than the walk itself.
-use answers::Refusal;
+use refusals::Refusal;
 use structure::Extent;
 use structure::extent_at;
 ghost use mathlib.Core.Path.{_≡_};

@@ -1,6 +1,6 @@
 // The walk over structures and all that is inside them, which counts them by their types. Only the tally needs the counts:
 // all others pass over structures without them.
-use answers::Refusal;
+use refusals::Refusal;
 use structure::Extent;
 use structure::extent_at;
 use wire::number_at;
@@ -8,7 +8,7 @@ ghost use mathlib.Core.Path.{_≡_};
 ghost use lib.ListN.{replicate};
 ghost use Rattle.meaning.specs.Message.{partOf, types};
 ghost use Rattle.meaning.specs.Walk.{walk};
-ghost use Rattle.answers.specs.Refusals.{refusal};
+ghost use Rattle.refusals.specs.Refusals.{refusal};
 ghost use Rattle.walk.specs.Tallies.{tallied, walkedOf, Walkable};
 
 // Where a walk ended: at the place behind the last structure, or at a fault.

@@ -3,9 +3,9 @@ use native.Mathlib.Omega.{arith}
 use mathlib.Core.Path.{refl}
 use borrow.Author.Needs.{needs}
 use Rattle.codes.proofs.Numbers.{number-below}
-use Rattle.codes.proofs.Numbers.{bit}
 use Rattle.codes.proofs.events.denied.Statement.{statement}
 use Rattle.codes.proofs.events.denied.Tie as tie
+use Rattle.meaning.proofs.Tests.{bit}
 
 pub denied-spec : {M : Type 1} → statement M
 denied-spec =

@@ -5,7 +5,7 @@ use native.Mathlib.Omega.{arith}
 use lib.ListN.{length}
 use Rattle.meaning.specs.Bytes.{words, splice}
 use Rattle.meaning.specs.Compose.{integers}
-use Rattle.meaning.proofs.Writing.{splice-none}
+use Rattle.meaning.proofs.Splices.{splice-none}
 use Rattle.compose.proofs.Composing.{firstOf, integer-next, whole}
 use Rattle.compose.proofs.composition.put_trace.Statement.{statement}
 use Rattle.compose.proofs.composition.put_trace.Tie as tie

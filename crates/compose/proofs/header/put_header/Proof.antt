@@ -6,7 +6,7 @@ use native.Mathlib.Omega.{arith}
 use lib.ListN.{length, take}
 use lib.Seq.{take-all}
 use Rattle.meaning.specs.Bytes.{words, splice}
-use Rattle.meaning.proofs.Writing.{splice-none}
+use Rattle.meaning.proofs.Splices.{splice-none}
 use Rattle.compose.specs.Headers.{fieldsOf}
 use Rattle.compose.proofs.Headers.{nine, write-next}
 use Rattle.compose.proofs.header.put_header.Statement.{statement}

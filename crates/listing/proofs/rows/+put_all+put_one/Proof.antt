@@ -6,8 +6,8 @@ use native.Mathlib.Omega.{arith}
 use borrow.Author.Needs.{needs}
 use borrow.Fn.Kinds.{In}
 use borrow.Fn.PlainCycle.{Measures, is, falls, and}
+use Rattle.meaning.specs.Bytes.{whole}
 use Rattle.meaning.specs.Walk.{walk}
-use Rattle.listing.specs.Rows.{whole}
 use Rattle.listing.proofs.Turns.{its, line-fits, line-room, group-due, group-done, plain-done, Rest, first-due, first-done, all-done}
 use Rattle.listing.proofs.rows.put_all.Reads as put-all
 use Rattle.listing.proofs.rows.put_all.Kinds as put-all-kinds

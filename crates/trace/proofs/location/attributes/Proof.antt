@@ -9,11 +9,10 @@ use borrow.Author.Tests.{not-true, not-false}
 use denote.Ref.{now}
 use Rattle.meaning.specs.Bytes.{Part}
 use Rattle.meaning.specs.Structure.{Row}
-use Rattle.meaning.specs.Walk.{walk}
+use Rattle.meaning.specs.Walk.{walk, rowsIn}
 use Rattle.meaning.specs.Message.{partOf}
 use Rattle.meaning.specs.Trace.{directIn, eachOnce, placesOf}
 use Rattle.trace.specs.Marks.{InReach}
-use Rattle.trace.specs.Locations.{rowsIn}
 use Rattle.trace.proofs.Marking.{Placed, found-once, found-places, found-every}
 use Rattle.trace.proofs.Locating.{every-member, members-placed, attributes-unfound, attributes-unranged, attributes-found}
 use borrow.Author.Needs.{needs}

@@ -1,16 +1,16 @@
--- `answers::place` meets its contract: three refusals have a place of their own, and the table has 0 for the others.
+-- `refusals::place` meets its contract: three refusals have a place of their own, and the table has 0 for the others.
 use mathlib.Core.Path.{_≡_, refl, sym, ap}
 use mathlib.Core.List.{List, [], _∷_}
 use Prim.Native.Nat.{ℕ}
 use types.Run.{OneOf, miss}
 use denote.Enum.Declared.{tagOf}
 use borrow.Author.Needs.{needs}
-use Rattle.answers.specs.Refusals.{placeOf}
-use Rattle.answers.specs.declared.Refusal.{Refusal}
-use Rattle.answers.proofs.Refusal.{the-type}
-use Rattle.answers.specs.declared.Refusal.the-variants.{BadLength, BadHeader, BadStructure, TooDeep, LeftOver, NoTraceHeader, NoTraceRoute, BadAttribute, BadGroup, MaxActivities, CounterFull, NoRoom, ReportTooShort, UnsupportedDelivery, UnsupportedForwarding, NotForwarded, BadSheet}
-use Rattle.answers.proofs.place.Statement.{statement}
-use Rattle.answers.proofs.place.Tie as tie
+use Rattle.refusals.specs.Refusals.{placeOf}
+use Rattle.refusals.specs.declared.Refusal.{Refusal}
+use Rattle.refusals.proofs.Refusal.{the-type}
+use Rattle.refusals.specs.declared.Refusal.the-variants.{BadLength, BadHeader, BadStructure, TooDeep, LeftOver, NoTraceHeader, NoTraceRoute, BadAttribute, BadGroup, MaxActivities, CounterFull, NoRoom, ReportTooShort, UnsupportedDelivery, UnsupportedForwarding, NotForwarded, BadSheet}
+use Rattle.refusals.proofs.place.Statement.{statement}
+use Rattle.refusals.proofs.place.Tie as tie
 
 -- the cases under the last arm, by their positions
 abbrev rest : List ℕ

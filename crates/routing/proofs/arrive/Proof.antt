@@ -7,10 +7,10 @@ use Rattle.meaning.specs.Answer.{Result, andThen}
 use Rattle.meaning.specs.Trace.{read}
 use Rattle.meaning.specs.Decision.{arriveBy, arrival}
 use Rattle.attributes.specs.Terms.{termsOf}
-use Rattle.reading.proofs.Given.{read-is}
+use Rattle.routing.proofs.Given.{read-is}
 use borrow.Author.Needs.{needs}
-use Rattle.reading.proofs.arrive.Statement.{statement}
-use Rattle.reading.proofs.arrive.Tie as tie
+use Rattle.routing.proofs.arrive.Statement.{statement}
+use Rattle.routing.proofs.arrive.Tie as tie
 
 returns : tie.Need-returns
 unfolding arrival

@@ -1,6 +1,6 @@
 // The refusals: one case each, and its number and place.
 ghost use mathlib.Core.Path.{_≡_};
-ghost use Rattle.answers.specs.Refusals.{numberOf, placeOf, owed};
+ghost use Rattle.refusals.specs.Refusals.{numberOf, placeOf, owed};
 
 // What an entry answers when it gives nothing. A case holds its place where the rules' table has one that is not 0.
 pub enum Refusal {

@@ -1,9 +1,9 @@
--- `answers::number` meets its contract: in each arm the case is known, and the table computes.
+-- `refusals::number` meets its contract: in each arm the case is known, and the table computes.
 use mathlib.Core.Path.{sym, ap}
 use borrow.Author.Needs.{needs}
-use Rattle.answers.specs.Refusals.{numberOf}
-use Rattle.answers.proofs.number.Statement.{statement}
-use Rattle.answers.proofs.number.Tie as tie
+use Rattle.refusals.specs.Refusals.{numberOf}
+use Rattle.refusals.proofs.number.Statement.{statement}
+use Rattle.refusals.proofs.number.Tie as tie
 
 pub number-spec : {M : Type 1} → statement M
 number-spec =

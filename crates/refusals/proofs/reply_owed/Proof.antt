@@ -1,4 +1,4 @@
--- `answers::reply_owed` meets its contract: 10 says it, and the table has false for the others.
+-- `refusals::reply_owed` meets its contract: 10 says it, and the table has false for the others.
 use mathlib.Core.Path.{_≡_, refl, sym, ap}
 use mathlib.Core.Bool.{false}
 use mathlib.Core.List.{List, [], _∷_}
@@ -6,12 +6,12 @@ use Prim.Native.Nat.{ℕ}
 use types.Run.{OneOf, miss}
 use denote.Enum.Declared.{tagOf}
 use borrow.Author.Needs.{needs}
-use Rattle.answers.specs.Refusals.{owed}
-use Rattle.answers.specs.declared.Refusal.{Refusal}
-use Rattle.answers.proofs.Refusal.{the-type}
-use Rattle.answers.specs.declared.Refusal.the-variants.{BadLength, BadHeader, BadStructure, TooDeep, LeftOver, NoTraceHeader, NoTraceRoute, BadAttribute, BadGroup, MaxActivities, CounterFull, NoRoom, ReportTooShort, UnsupportedDelivery, UnsupportedForwarding, NotForwarded, BadSheet}
-use Rattle.answers.proofs.reply_owed.Statement.{statement}
-use Rattle.answers.proofs.reply_owed.Tie as tie
+use Rattle.refusals.specs.Refusals.{owed}
+use Rattle.refusals.specs.declared.Refusal.{Refusal}
+use Rattle.refusals.proofs.Refusal.{the-type}
+use Rattle.refusals.specs.declared.Refusal.the-variants.{BadLength, BadHeader, BadStructure, TooDeep, LeftOver, NoTraceHeader, NoTraceRoute, BadAttribute, BadGroup, MaxActivities, CounterFull, NoRoom, ReportTooShort, UnsupportedDelivery, UnsupportedForwarding, NotForwarded, BadSheet}
+use Rattle.refusals.proofs.reply_owed.Statement.{statement}
+use Rattle.refusals.proofs.reply_owed.Tie as tie
 
 -- the cases under the last arm, by their positions
 abbrev rest : List ℕ

@@ -9,7 +9,7 @@ ghost use Rattle.meaning.specs.Trace.{read as readOf};
 ghost use Rattle.meaning.specs.Decision.{forwarding, arrival};
 ghost use Rattle.attributes.specs.Terms.{termsOf};
 ghost use Rattle.attributes.specs.Decisions.{judgedOf};
-ghost use Rattle.reading.specs.Readings.{valuesOf, reading};
+ghost use Rattle.routing.specs.Readings.{valuesOf, reading};
 
 // The eight values of a sound trace, in the rules' order; all 0 if refused.
 pub struct Values {

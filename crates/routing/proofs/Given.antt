@@ -5,13 +5,13 @@ use Prim.Native.Nat.{ℕ}
 use Rattle.meaning.specs.Answer.{Result, accepted, refused, andThen}
 use Rattle.meaning.specs.Trace.{Trace}
 use Rattle.meaning.proofs.Tests.{clash}
-use Rattle.answers.specs.Refusals.{numberOf, placeOf}
+use Rattle.refusals.specs.Refusals.{numberOf, placeOf}
 use Rattle.trace.specs.Locations.{answerOf, traced}
 use Rattle.trace.specs.declared.location.Answer.{Answer}
 use Rattle.trace.specs.declared.location.Answer.the-variants.{Found, Refused}
 use Rattle.trace.proofs.Entries.{same-refusal}
-use Rattle.reading.specs.Readings.{Reading, reading, given, valuesOf}
-use Rattle.reading.specs.declared.Values.{Values}
+use Rattle.routing.specs.Readings.{Reading, reading, given, valuesOf}
+use Rattle.routing.specs.declared.Values.{Values}
 
 -- READ, from the trace
 pub read-traced : (n : ℕ) (r : Result Trace) (a : Answer) (v : List ℕ) → answerOf a ≡ traced n r .answer → v ≡ traced n r .values

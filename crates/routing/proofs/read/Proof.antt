@@ -4,10 +4,10 @@ use denote.Ref.{now}
 use Rattle.meaning.specs.Trace.{readTrace, read}
 use Rattle.attributes.specs.Terms.{termsOf}
 use Rattle.trace.specs.Locations.{Outcome}
-use Rattle.reading.proofs.Given.{read-traced}
+use Rattle.routing.proofs.Given.{read-traced}
 use borrow.Author.Needs.{needs}
-use Rattle.reading.proofs.read.Statement.{statement}
-use Rattle.reading.proofs.read.Tie as tie
+use Rattle.routing.proofs.read.Statement.{statement}
+use Rattle.routing.proofs.read.Tie as tie
 
 returns : tie.Need-returns
 unfolding read

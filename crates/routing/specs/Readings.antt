@@ -2,11 +2,11 @@
 use Prim.Native.Nat.{ℕ}
 use mathlib.Core.List.{List}
 use Rattle.meaning.specs.Answer.{Result, accepted, refused}
-use Rattle.answers.specs.Refusals.{refusal}
+use Rattle.refusals.specs.Refusals.{refusal}
 use Rattle.trace.specs.Locations.{none}
 use Rattle.trace.specs.declared.location.Answer.{Answer}
 use Rattle.trace.specs.declared.location.Answer.the-variants.{Found, Refused}
-use Rattle.reading.specs.declared.Values.{Values}
+use Rattle.routing.specs.declared.Values.{Values}
 
 -- the answer, and the array beside it
 pub record Reading : Type 0 where
