@@ -1,9 +1,9 @@
 // Compose: a trace-route message from a sheet and eight values.
 use crate::header::Kind;
 use crate::header::put_header;
-use refusals::Refusal;
 use attributes::in_range;
 use attributes::sheet_ok;
+use refusals::Refusal;
 use structure::MQCFT_GROUP;
 use structure::MQCFT_INTEGER;
 use wire::put_number;

@@ -8,10 +8,10 @@ mod entered;
 mod group;
 mod written;
 
-use refusals::Refusal;
 use entered::count;
 use entered::enter;
 use group::group_ok;
+use refusals::Refusal;
 use trace::locate;
 use verdict::Answer;
 use verdict::Level;

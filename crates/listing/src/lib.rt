@@ -2,9 +2,9 @@
 mod rows;
 mod whole;
 
-use refusals::Refusal;
 use pcf::Checked;
 use pcf::check;
+use refusals::Refusal;
 use text::put_refusal;
 use whole::put_listing;
 ghost use Prim.Native.Nat.{_<_};

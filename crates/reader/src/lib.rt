@@ -3,12 +3,12 @@
 // else at the same depth, until as many structures were taken as the group or the header counts. The counts still due are
 // the caller's to keep. Functions over a struct that holds a slice are proved by hand, statement by statement: they are few
 // and thin, and what has to be decided is left to functions over plain slices and numbers.
-use refusals::Refusal;
 use pcf::Cursor;
 use pcf::HEADER;
 use pcf::MOST_BYTES;
 use pcf::Stepped;
 use pcf::step;
+use refusals::Refusal;
 use walk::Passed;
 use walk::over;
 ghost use mathlib.Core.Path.{_≡_};

@@ -1,8 +1,8 @@
 // The top-level groups of a message: the TraceRoute group, and the n-th Activity group.
 use crate::passing::pass;
-use refusals::Refusal;
 use compose::MQGACF_TRACE_ROUTE;
 use pcf::Stepped;
+use refusals::Refusal;
 use structure::MQCFT_GROUP;
 use structure::Row;
 use walk::Ended;

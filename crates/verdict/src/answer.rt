@@ -2,7 +2,6 @@
 use crate::plan::Counter;
 use crate::plan::Plan;
 use crate::plan::index_of;
-use refusals::Refusal;
 use attributes::ACCUMULATE;
 use attributes::DISCONTINUITY_COUNT;
 use attributes::MAX_ACTIVITIES;
@@ -11,6 +10,7 @@ use attributes::RECORDED_ACTIVITIES;
 use attributes::UNRECORDED_ACTIVITIES;
 use pcf::HEADER;
 use pcf::MOST_BYTES;
+use refusals::Refusal;
 ghost use mathlib.Core.Path.{_≡_};
 ghost use mathlib.Core.Bool.{not, _&&_, cond};
 ghost use Prim.Native.Nat.{_+_, _≤_, _<_};
