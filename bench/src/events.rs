@@ -18,7 +18,7 @@ struct Stage {
     group: Vec<u8>,
 }
 
-pub fn rows(inputs: &[Input; 4]) -> Vec<Row<'static>> {
+pub fn rows(inputs: &[Input]) -> Vec<Row<'static>> {
     let mut rows = Vec::new();
     for input in inputs {
         let contenders = discontinuity(&input.message);

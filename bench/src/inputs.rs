@@ -19,7 +19,7 @@ pub struct Input {
     pub message: Vec<u8>,
 }
 
-pub fn all() -> [Input; 4] {
+pub fn all() -> [Input; 5] {
     [
         Input {
             name: "composed, 180 bytes",
@@ -36,6 +36,10 @@ pub fn all() -> [Input; 4] {
         Input {
             name: "groups to depth 8, 65,536 bytes",
             message: nested(LARGEST),
+        },
+        Input {
+            name: "a string behind each group to depth 8, 65,536 bytes",
+            message: interleaved(LARGEST),
         },
     ]
 }
@@ -99,6 +103,16 @@ pub fn nested(length: usize) -> Vec<u8> {
     let inner = Piece::group(8006, std::slice::from_ref(&name));
     let chain = (3..9).fold(inner, |inner, _| Piece::group(8006, &[inner]));
     fill(length, &Piece::group(8005, &[name, chain]))
+}
+
+/// The same with a string behind each inner group, so that no group is the
+/// last one due where it stands.
+fn interleaved(length: usize) -> Vec<u8> {
+    let name = Piece::string(APPLICATION, b"deep");
+    let behind = Piece::string(3002, b"more");
+    let inner = Piece::group(8006, std::slice::from_ref(&name));
+    let chain = (3..9).fold(inner, |inner, _| Piece::group(8006, &[inner, behind.clone()]));
+    fill(length, &Piece::group(8005, &[name, chain, behind]))
 }
 
 /// Repeats the piece and fills up with a string.

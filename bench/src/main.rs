@@ -2,7 +2,9 @@
 //! functions and, for the check, beside plain C. Prints tables in Markdown.
 //!
 //! First `rt staticlib gwirandol` in the repository's root, or the library's
-//! folder in `GWIRANDOL_LIB`. Then `cargo run --release --offline`.
+//! folder in `GWIRANDOL_LIB`. Then `cargo run --release --offline`. With the
+//! argument `times` it makes one pass and prints the library's times alone, for
+//! `bench/before-and-after`, which puts two libraries side by side.
 
 mod agree;
 mod events;
@@ -21,16 +23,36 @@ mod traces;
 
 fn main() {
     agree::checks();
+    if std::env::args().nth(1).as_deref() == Some("times") {
+        times();
+    } else {
+        tables();
+    }
+}
+
+fn times() {
+    let inputs = inputs::all();
+    let mut rows = rows(&inputs);
+    measure::measure(&mut rows, 1);
+    table::times(&rows);
+}
+
+fn rows(inputs: &[inputs::Input]) -> Vec<measure::Row<'_>> {
+    let mut rows = structures::rows(inputs);
+    rows.extend(traces::rows(inputs));
+    rows.extend(events::rows(inputs));
+    rows
+}
+
+fn tables() {
     let (inputs, grown) = (inputs::all(), growth::inputs());
-    let mut rows = growth::rows(&grown);
-    let growing = rows.len();
-    rows.extend(structures::rows(&inputs));
-    rows.extend(traces::rows(&inputs));
-    rows.extend(events::rows(&inputs));
-    measure::measure(&mut rows);
-    table::print(&rows[growing..]);
+    let mut measured = growth::rows(&grown);
+    let growing = measured.len();
+    measured.extend(rows(&inputs));
+    measure::measure(&mut measured, measure::PASSES);
+    table::print(&measured[growing..]);
     println!();
-    growth::print(&rows[..growing]);
+    growth::print(&measured[..growing]);
     println!();
     notes::print();
 }

@@ -63,9 +63,9 @@ impl<'a> Row<'a> {
     }
 }
 
-/// Measures all rows, again and again.
-pub fn measure(rows: &mut [Row]) {
-    for _ in 0..PASSES {
+/// Measures all rows, so many times.
+pub fn measure(rows: &mut [Row], passes: usize) {
+    for _ in 0..passes {
         rows.iter_mut().for_each(Row::pass);
     }
 }

@@ -26,7 +26,9 @@ pub fn print() {
     );
     println!(
         "- flat: a TraceRoute group, then integers of 16 bytes and one string to the end. Groups \
-         to depth 8: Activity groups of 176 bytes, each with seven more groups one in another."
+         to depth 8: Activity groups of 176 bytes, each with seven more groups one in another, \
+         each of which is the last one due where it stands; a string behind each: the same with \
+         a string of 24 bytes behind every inner group."
     );
     println!(
         "- read and what builds on it (forward, events, names) walk the whole message on both \

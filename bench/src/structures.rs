@@ -6,7 +6,7 @@ use crate::measure::{contender, Contender, Row};
 use crate::plain;
 use std::hint::black_box;
 
-pub fn rows(inputs: &[Input; 4]) -> Vec<Row<'_>> {
+pub fn rows(inputs: &[Input]) -> Vec<Row<'_>> {
     let row = |entry, input: &'static str, contenders| Row::new(entry, input, contenders);
     let checks = inputs
         .iter()

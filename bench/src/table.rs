@@ -8,6 +8,13 @@ pub fn print(rows: &[Row]) {
     rows.iter().for_each(line);
 }
 
+/// The library's times, one row to a line, columns apart by tabs.
+pub fn times(rows: &[Row]) {
+    for row in rows {
+        println!("{}\t{}\t{}", row.entry, row.input, row.best[0]);
+    }
+}
+
 fn line(row: &Row) {
     let (library, rust) = (row.best[0], row.best[1]);
     let (c, to_c) = match row.best.get(2) {

@@ -1,3 +1,2 @@
-pub mod Lists
 mod Tests
 mod Sheets

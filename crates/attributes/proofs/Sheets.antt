@@ -8,7 +8,7 @@ use lib.Dec.{leb, eqb}
 use borrow.Author.Tests.{eq-eqb}
 use Rattle.meaning.specs.Structure.{small}
 use Rattle.meaning.specs.Trace.{absent, identifiersOk, sheetOk}
-use Rattle.attributes.proofs.Lists.{rest-none, rest-next}
+use Rattle.meaning.proofs.Lists.{rest-none, rest-next}
 
 pub absent-none : (x : ℕ) (l : List ℕ) (k : ℕ) → length l ≤ k → absent x (drop k l) ≡ true
 unfolding absent

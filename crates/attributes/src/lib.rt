@@ -13,6 +13,8 @@ pub use names::ACCUMULATE;
 pub use names::DETAIL;
 pub use names::DISCONTINUITY_COUNT;
 pub use names::MAX_ACTIVITIES;
+pub use names::MQGACF_ACTIVITY;
+pub use names::MQGACF_TRACE_ROUTE;
 pub use names::MQROUTE_ACCUMULATE_AND_REPLY;
 pub use names::MQROUTE_ACCUMULATE_NONE;
 pub use names::MQROUTE_DETAIL_HIGH;

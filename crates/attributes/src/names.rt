@@ -1,5 +1,5 @@
-// The eight attributes by name: their positions in a sheet, in a list of values and in a list of places; and the values that
-// IBM has names for.
+// The eight attributes by name: their positions in a sheet, in a list of values and in a list of places; the values that IBM
+// has names for; and the identifiers of the two groups of a trace.
 pub const DETAIL: usize = 0;
 
 pub const RECORDED_ACTIVITIES: usize = 1;
@@ -39,3 +39,9 @@ pub const MQROUTE_DELIVER_NO: u32 = 0x2000;
 // Options of Forward and Deliver that may not be passed over: IBM's MQROUTE_FORWARD_REJ_UNSUP_MASK and
 // MQROUTE_DELIVER_REJ_UNSUP_MASK.
 pub const REJECT_UNSUPPORTED: u32 = 0xFFFF0000;
+
+// The TraceRoute group, which holds the eight attributes.
+pub const MQGACF_TRACE_ROUTE: u32 = 8003;
+
+// An Activity group.
+pub const MQGACF_ACTIVITY: u32 = 8005;

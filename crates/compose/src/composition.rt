@@ -1,8 +1,9 @@
 // Compose: a trace-route message from a sheet and eight values.
-use crate::header::Kind;
-use crate::header::put_header;
+use attributes::MQGACF_TRACE_ROUTE;
 use attributes::in_range;
 use attributes::sheet_ok;
+use header::Kind;
+use header::put_header;
 use refusals::Refusal;
 use structure::MQCFT_GROUP;
 use structure::MQCFT_INTEGER;
@@ -15,9 +16,6 @@ ghost use Rattle.meaning.specs.Bytes.{words, splice};
 ghost use Rattle.meaning.specs.Compose.{composed as composedOf, compose as composeOf};
 ghost use Rattle.compose.specs.Composes.{outcome};
 ghost use Rattle.attributes.specs.Terms.{termsOf};
-
-// The identifier of the TraceRoute group.
-pub const MQGACF_TRACE_ROUTE: u32 = 8003;
 
 // The length of a composed message.
 const COMPOSED: usize = 180;

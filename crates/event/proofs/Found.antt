@@ -1,9 +1,8 @@
--- What is known of Read once a trace was located, or refused.
+-- What is known of Read once a trace was found, or refused.
 use mathlib.Core.Path.{_≡_, refl, sym, ap, _∙_}
 use mathlib.Core.Bool.{Bool, true, false}
 use mathlib.Core.List.{List, []}
 use Prim.Native.Nat.{ℕ}
-use native.Mathlib.Omega.{arith}
 use lib.ListN.{length}
 use Rattle.meaning.specs.Answer.{Result, accepted, refused}
 use Rattle.meaning.specs.Structure.{Row}
@@ -12,39 +11,36 @@ use Rattle.meaning.specs.Event.{Event, discontinuity, denied, soundEvent, group
 use Rattle.refusals.specs.Refusals.{numberOf, placeOf, owed, refusal}
 use Rattle.refusals.specs.declared.Refusal.{Refusal}
 use Rattle.refusals.specs.declared.Refusal.the-variants as refusals
+use Rattle.meaning.proofs.Tests.{clash}
 use Rattle.meaning.proofs.Outcomes.{read-refused as unread}
-use Rattle.trace.specs.Locations.{Attributes, Done, done, answerOf, located, locatedOf}
+use Rattle.trace.specs.Locations.{Outcome, Done, done, answerOf, traced, tracedOf}
 use Rattle.trace.specs.declared.location.Answer.the-variants as told
-use Rattle.trace.specs.declared.location.Located.{Located}
+use Rattle.trace.specs.declared.location.Traced.{Traced}
 use Rattle.verdict.specs.Plans.{activityOf}
 use Rattle.event.specs.Written.{Ready, Countable}
 use Rattle.verdict.specs.declared.plan.Level.{Level}
 use Rattle.verdict.specs.declared.plan.Settings.{Settings}
 use Rattle.event.proofs.Entries.{event-refused, event-unsound}
 
--- two constructors are never equal
-clash : _≡_ {A = ℕ} 0 1 → ⊥
-clash e = omega arith
-
-module _ (l : Located) where
-  pub read-refused : (x : Result Trace) (r : Refusal) → locatedOf l ≡ located x → l .answer ≡ told.Refused r → x ≡ refused (numberOf r) (placeOf r)
+module _ (l : Traced) where
+  pub read-refused : (x : Result Trace) (r : Refusal) → tracedOf l ≡ traced 0 x → l .answer ≡ told.Refused r → x ≡ refused (numberOf r) (placeOf r)
   read-refused (accepted t) r e h =
-      let a : _≡_ {A = Result Done} (refusal r) (accepted done) = ap answerOf (sym h) ∙ ap (λ (y : Attributes). y .answer) e in
+      let a : _≡_ {A = Result Done} (refusal r) (accepted done) = ap answerOf (sym h) ∙ ap (λ (y : Outcome). y .answer) e in
       absurd (clash (cc))
   read-refused (refused n p) r e h =
-      let a : _≡_ {A = Result Done} (refusal r) (refused n p) = ap answerOf (sym h) ∙ ap (λ (y : Attributes). y .answer) e in
+      let a : _≡_ {A = Result Done} (refusal r) (refused n p) = ap answerOf (sym h) ∙ ap (λ (y : Outcome). y .answer) e in
       let b : numberOf r ≡ n = cc in
       let c : placeOf r ≡ p = cc in
       cc
 
-  pub read-found : (x : Result Trace) → locatedOf l ≡ located x → l .answer ≡ told.Found
+  pub read-found : (x : Result Trace) → tracedOf l ≡ traced 0 x → l .answer ≡ told.Found
       → (rows : List Row) × (x ≡ accepted (record { rows = rows; places = l .places; values = l .values }))
   read-found (accepted t) e h =
-      let p : l .places ≡ t .places = ap (λ (y : Attributes). y .places) e in
-      let v : l .values ≡ t .values = ap (λ (y : Attributes). y .values) e in
+      let p : l .places ≡ t .places = ap (λ (y : Outcome). y .places) e in
+      let v : l .values ≡ t .values = ap (λ (y : Outcome). y .values) e in
       (t .rows, rw (p, v) refl)
   read-found (refused n p) e h =
-      let a : _≡_ {A = Result Done} (accepted done) (refused n p) = ap answerOf (sym h) ∙ ap (λ (y : Attributes). y .answer) e in
+      let a : _≡_ {A = Result Done} (accepted done) (refused n p) = ap answerOf (sym h) ∙ ap (λ (y : Outcome). y .answer) e in
       absurd (clash (cc))
 
 -- only 10 says that a reply is owed, and Read never refuses with it
@@ -67,8 +63,8 @@ not-owed refusals.UnsupportedForwarding h = refl
 not-owed refusals.NotForwarded h = refl
 not-owed refusals.BadSheet h = refl
 
--- THE ENTRIES, by what was located
-module _ (sheet buf : List ℕ) (len : ℕ) (l : Located) (e : locatedOf l ≡ located (readTrace (record { sheet = sheet }) buf len)) where
+-- THE ENTRIES, by what was found
+module _ (sheet buf : List ℕ) (len : ℕ) (l : Traced) (e : tracedOf l ≡ traced 0 (readTrace (record { sheet = sheet }) buf len)) where
   abbrev tm : Terms
   tm = record { sheet = sheet }
 

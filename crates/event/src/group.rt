@@ -1,6 +1,6 @@
 // The lent Activity group.
+use attributes::MQGACF_ACTIVITY;
 use structure::MQCFT_GROUP;
-use trace::MQGACF_ACTIVITY;
 use walk::Passed;
 use walk::over;
 use wire::number_at;

@@ -12,7 +12,7 @@ use entered::count;
 use entered::enter;
 use group::group_ok;
 use refusals::Refusal;
-use trace::locate;
+use trace::trace_of;
 use verdict::Answer;
 use verdict::Level;
 use verdict::Settings;
@@ -27,7 +27,7 @@ ghost use Rattle.event.specs.Events.{outcome, state, Discontinues};
 pub fn discontinuity(buf: &mut [u8], len: usize, sheet: [u32; 8]) -> Answer
     ensures { λ r. ⌜ Discontinues sheet (now (buf .entry)) len r (now (buf .exit)) ⌝ }
 {
-    let found = locate(buf, len, sheet);
+    let found = trace_of(buf, len, sheet, 0);
     let sought = found.answer;
     match sought {
         trace::Answer::Refused(r) => Answer::Refused(r),
@@ -53,7 +53,7 @@ pub fn activity(
 ) -> Answer
     ensures { λ r. ⌜ outcome r len (now (buf .exit)) (now (report .exit)) ≡ event (termsOf sheet) (state (now (buf .entry)) len (now (report .entry))) (activityOf level (now (group .entry)) asked settings) ⌝ }
 {
-    let found = locate(buf, len, sheet);
+    let found = trace_of(buf, len, sheet, 0);
     let sought = found.answer;
     match sought {
         trace::Answer::Refused(r) => Answer::Refused(r),

@@ -1,6 +1,6 @@
 // What an accepted event writes: the counter's new value, and behind the message the group.
-use compose::Kind;
-use compose::put_header;
+use header::Kind;
+use header::put_header;
 use pcf::HEADER;
 use wire::copy_to;
 use wire::number_at;

@@ -7,8 +7,7 @@ use Prim.Native.Nat.{ℕ, zero, suc, _+_, _-_, _*_, _/_, _%_, _^_, _≤_, _<_}
 use native.Mathlib.Nat.{pow-suc, mod-eq-of-lt}
 use native.Mathlib.Numerals.{add-one}
 use native.Mathlib.Omega.{arith}
-use lib.ListN.{length, getD, length-append, List·getD-append}
-use lib.Seq.{getD-append-seam}
+use lib.ListN.{length, length-append}
 use lib.Dec.{ltb}
 use borrow.Author.Tests.{lt-ltb, le-ltb, ltb-true, ltb-false}
 use Rattle.meaning.specs.Structure.{Row}
@@ -62,30 +61,6 @@ pub value-decimal : (n : ℕ) → n < 10 ^ 10 → valueOf (decimal n) ≡ n
 unfolding decimal
 value-decimal n h = value-digits 10 n h
 
--- each of its bytes is one of the ten digits
-abbrev pub Digit : ℕ → Type 0
-Digit c = (48 ≤ c) × (c < 58)
-
-digit-last : (xs : List ℕ) (c : ℕ) → ((i : ℕ) → i < length xs → Digit (getD xs i 0)) → Digit c
-    → (i : ℕ) → i < length (xs ++ c ∷ []) → Digit (getD (xs ++ c ∷ []) i 0)
-digit-last xs c h d i l = go (lt-or-ge i (length xs))
-  where
-    go : (i < length xs) ⊎ (length xs ≤ i) → Digit (getD (xs ++ c ∷ []) i 0)
-    go (inl a) = rw (List·getD-append xs (c ∷ []) 0 i a) (h i a)
-    go (inr a) = let e : i ≡ length xs = omega (arith, simp length-append at l) in rw (e, getD-append-seam) d
-
-digits-digit : (k n i : ℕ) → i < length (digits k n) → Digit (getD (digits k n) i 0)
-digits-digit zero n i h = absurd (omega (arith, rw digits-none at h))
-digits-digit (suc k) n i h = go (digits-digit k (n / 10)) (lt-or-ge n 10)
-  where
-    go : ((j : ℕ) → j < length (digits k (n / 10)) → Digit (getD (digits k (n / 10)) j 0)) → (n < 10) ⊎ (10 ≤ n) → Digit (getD (digits (suc k) n) i 0)
-    go f (inl a) = rw (digits-one k n a) (digit-last [] (48 + n) (λ j l. absurd (omega arith)) (omega arith) i (rw (digits-one k n a) at h))
-    go f (inr a) = rw (digits-more k n a) (digit-last (digits k (n / 10)) (48 + n % 10) f (omega arith) i (rw (digits-more k n a) at h))
-
-pub decimal-digit : (n i : ℕ) → i < length (decimal n) → Digit (getD (decimal n) i 0)
-unfolding decimal
-decimal-digit n i h = digits-digit 10 n i h
-
 -- LENGTHS
 length-digits : (m k n : ℕ) → 10 ^ k ≤ n → n < 10 ^ suc k → k < m → length (digits m n) ≡ suc k
 length-digits zero k n l h f = absurd (omega arith)
@@ -135,30 +110,6 @@ unfolding decimal
 decimal-ten n = digits-length 10 n
 
 -- the first digit of a number that is not 0 is not 0
-digits-some : (k n : ℕ) → 0 < k → 0 < length (digits k n)
-digits-some zero n h = absurd (omega arith)
-digits-some (suc k) n h = go (lt-or-ge n 10)
-  where
-    go : (n < 10) ⊎ (10 ≤ n) → 0 < length (digits (suc k) n)
-    go (inl a) = rw (digits-one k n a) (omega arith)
-    go (inr a) = rw (length-digits-more k n a) (omega arith)
-
-first-digit : (k n : ℕ) → n < 10 ^ k → 0 < n → 49 ≤ getD (digits k n) 0 0
-first-digit zero n h l = absurd (omega arith)
-first-digit (suc k) n h l = go (first-digit k (n / 10) (omega (arith, pow-suc 10 k))) (lt-or-ge n 10)
-  where
-    some : (k : ℕ) → n < 10 ^ suc k → 10 ≤ n → 0 < k
-    some zero h a = absurd (omega arith)
-    some (suc k) h a = omega arith
-
-    go : (0 < n / 10 → 49 ≤ getD (digits k (n / 10)) 0 0) → (n < 10) ⊎ (10 ≤ n) → 49 ≤ getD (digits (suc k) n) 0 0
-    go f (inl a) = rw (digits-one k n a) (omega arith)
-    go f (inr a) = rw (digits-more k n a, List·getD-append (digits k (n / 10)) ((48 + n % 10) ∷ []) 0 0 (digits-some k (n / 10) (some k h a))) (f (omega arith))
-
-pub decimal-first : (n : ℕ) → n < 10 ^ 10 → 0 < n → 49 ≤ getD (decimal n) 0 0
-unfolding decimal
-decimal-first n h l = first-digit 10 n h l
-
 -- FROM THE BACK. The last k digits of n, with zeros in front where n has fewer.
 unfoldable pub lastDigits : ℕ → ℕ → List ℕ
 lastDigits zero n = []

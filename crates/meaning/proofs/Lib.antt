@@ -8,6 +8,8 @@ pub mod Splices
 pub mod Stores
 -- decimal text, its length, and its value again
 pub mod Decimals
+-- the rest of a list, and a list that is filled, one element after the other
+pub mod Lists
 -- Structures, the walk and whole messages
 -- Boolean tests and answers
 pub mod Tests

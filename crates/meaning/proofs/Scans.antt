@@ -1,17 +1,15 @@
 -- A whole message: what its length tells, and its rows by the tests that come first.
 use mathlib.Core.Path.{_≡_, refl, sym, _∙_}
-use mathlib.Core.Bool.{true, false}
+use mathlib.Core.Bool.{true}
 use mathlib.Core.List.{List}
 use Prim.Native.Nat.{ℕ, _+_, _≤_}
 use native.Mathlib.Omega.{arith}
 use lib.ListN.{length}
 use lib.Dec.{leb}
 use borrow.Author.Tests.{leb-true}
-use Rattle.meaning.specs.Bytes.{number, num}
-use Rattle.meaning.specs.Names.{mostBytes, badLength, badHeader}
-use Rattle.meaning.specs.Answer.{refused, andThen}
-use Rattle.meaning.specs.Walk.{walk}
-use Rattle.meaning.specs.Message.{headerOk, partOf, lengthOk, closed, rowsOf, scan}
+use Rattle.meaning.specs.Bytes.{num}
+use Rattle.meaning.specs.Names.{mostBytes}
+use Rattle.meaning.specs.Message.{headerOk, partOf, lengthOk}
 use Rattle.meaning.proofs.Tests.{and-true}
 use Rattle.meaning.proofs.Parts.{num-part}
 
@@ -34,20 +32,3 @@ unfolding headerOk
 header-part buf len h =
     let same : (at : ℕ) → at + 4 ≤ 36 → num (partOf buf len) at ≡ num (partOf buf 36) at = λ at k. num-part buf len at (omega arith) ∙ sym (num-part buf 36 at k) in
     rw (same 4 (omega arith), same 8 (omega arith), same 32 (omega arith)) refl
-
-module _ (buf : List ℕ) (len : ℕ) where
-  pub scan-unsized : lengthOk buf len ≡ false → scan buf len ≡ refused badLength 0
-  unfolding scan
-  scan-unsized e = rw e refl
-
-  module _ (e : lengthOk buf len ≡ true) where
-    pub scan-unheaded : headerOk (partOf buf len) ≡ false → scan buf len ≡ refused badHeader 0
-    unfolding scan rowsOf
-    scan-unheaded f = rw (e, f) refl
-
-    pub scan-walk : headerOk (partOf buf len) ≡ true → (count : ℕ) → count ≡ number buf 32
-        → scan buf len ≡ andThen (walk (partOf buf len) 36 1 count) (closed len)
-    unfolding scan rowsOf
-    scan-walk f count g =
-        let n : num (partOf buf len) 32 ≡ count = num-part buf len 32 (omega (arith, (sized buf len e) .least)) ∙ sym g in
-        rw (e, f, n) refl

@@ -14,7 +14,7 @@ use Rattle.meaning.specs.Structure.{Row, structureAt}
 use Rattle.meaning.specs.Trace.{Top, untilTop, tops, isGroup, groupsIn, directIn}
 use Rattle.meaning.specs.Activity.{sizeOf}
 use Rattle.meaning.proofs.Structures.{row-at}
-use Rattle.meaning.proofs.Walks.{Walks, none, more, walks-le, walks-depth, In, here, there, Tiles, tiles}
+use Rattle.meaning.proofs.Walks.{Walks, none, more, walks-le, walks-depth, In, here, there, tiles}
 use Rattle.meaning.proofs.Spans.{tiles-size}
 
 -- rows of the depth d or deeper

@@ -1,3 +1,3 @@
-mod Openings
+pub mod Openings
 mod Sums
 mod Closes

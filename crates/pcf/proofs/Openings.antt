@@ -8,7 +8,7 @@ use Rattle.meaning.specs.Bytes.{number, num}
 use Rattle.meaning.specs.Names.{badLength, badHeader}
 use Rattle.meaning.specs.Answer.{Result, accepted, refused, andThen}
 use Rattle.meaning.specs.Walk.{walk}
-use Rattle.meaning.specs.Message.{headerOk, partOf, lengthOk, closed, rowsOf, scan}
+use Rattle.meaning.specs.Message.{parameterCount, headerOk, partOf, lengthOk, closed, rowsOf, scan}
 use Rattle.meaning.proofs.Tests.{unless-accepted}
 use Rattle.meaning.proofs.Parts.{num-part}
 use Rattle.meaning.proofs.Scans.{Sized, sized, header-part}
@@ -35,10 +35,18 @@ module _ (buf : List ℕ) (len : ℕ) where
         let g : num (partOf buf len) 32 ≡ n = num-part buf len 32 (omega (arith, sized buf len e .least)) ∙ sym f in
         rw (e, header, h, g) refl
 
-  -- a message that was opened has its length in order
+  -- a message that was opened has its length in order, and a sound header with this count
   pub opened-sized : (n : ℕ) → opened buf len ≡ accepted n → Sized buf len
   unfolding opened
   opened-sized n e = sized buf len (unless-accepted (lengthOk buf len) badLength 0 _ n e .0)
+
+  pub opened-header : (n : ℕ) → opened buf len ≡ accepted n → (headerOk (partOf buf len) ≡ true) × (n ≡ number buf 32)
+  unfolding opened
+  opened-header n e =
+      let s = unless-accepted (lengthOk buf len) badLength 0 _ n e in
+      let h = unless-accepted (headerOk (partOf buf len)) badHeader 0 _ n (s .1) in
+      let c : parameterCount (partOf buf len) ≡ n = (let z = h .1 in cc) in
+      (h .0, sym c ∙ num-part buf len 32 (omega (arith, sized buf len (s .0) .least)))
 
   -- its structures come next, and nothing may follow
   pub scan-opened : scan buf len ≡ andThen (opened buf len) (λ n. andThen (walk (partOf buf len) 36 1 n) (closed len))

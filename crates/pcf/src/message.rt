@@ -33,7 +33,7 @@ pub enum Checked {
 }
 
 // The header's number of structures, or 1 or 2.
-enum Opening {
+pub enum Opening {
     Count(u32),
     Refused(Refusal),
 }
@@ -57,14 +57,14 @@ pub enum Stepped {
 }
 
 // A message is no longer than its buffer and 65,536 bytes, and has a header.
-pub fn length_ok(msg: &[u8], len: usize) -> bool
+fn length_ok(msg: &[u8], len: usize) -> bool
     ensures { λ r. ⌜ r ≡ lengthOk (now (msg .entry)) len ⌝ }
 {
     len <= msg.len() && (len <= MOST_BYTES && HEADER <= len)
 }
 
 // StrucLength 36, Version 1 to 3, ParameterCount below 2^31; `count` is the ParameterCount.
-pub fn header_ok(msg: &[u8], count: u32) -> bool
+fn header_ok(msg: &[u8], count: u32) -> bool
     requires { ⌜ (36 ≤ length (now msg)) × (count ≡ number (now msg) 32) ⌝ }
     ensures { λ r. ⌜ r ≡ headerOk (partOf (now (msg .entry)) 36) ⌝ }
 {
@@ -121,7 +121,7 @@ fn structures(msg: &[u8], len: usize, count: u32) -> Tallied
 }
 
 // What comes before the structures: the ParameterCount of a sound header, or 1 or 2.
-fn opened(msg: &[u8], len: usize) -> Opening
+pub fn opened(msg: &[u8], len: usize) -> Opening
     ensures { λ r. ⌜ openedOf r ≡ opened (now (msg .entry)) len ⌝ }
 {
     if length_ok(msg, len) {

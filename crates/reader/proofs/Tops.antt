@@ -1,6 +1,5 @@
 -- The n-th structure of the top level, by what the code finds.
 use mathlib.Core.Path.{_≡_, refl, ap, _∙_}
-use mathlib.Core.Bool.{Bool, true, false}
 use mathlib.Core.List.{List}
 use Prim.Native.Nat.{ℕ, _≤_, _<_}
 use native.Mathlib.Omega.{arith}
@@ -9,10 +8,9 @@ use borrow.Author.Tests.{le-leb, lt-leb}
 use Rattle.meaning.specs.Names.{badLength}
 use Rattle.meaning.specs.Answer.{Result, accepted, refused, andThen}
 use Rattle.meaning.specs.Walk.{Walked, walk}
-use Rattle.meaning.specs.Message.{Stepped, partOf, lengthOk, step}
-use Rattle.meaning.proofs.Fuel.{walk-zero}
+use Rattle.meaning.specs.Message.{Stepped, partOf, lengthOk}
 use Rattle.walk.specs.Passings.{Passage, passage}
-use Rattle.reader.specs.Reading.{start, standing, nthTop}
+use Rattle.reader.specs.Reading.{standing, nthTop}
 
 module _ (msg : List ℕ) where
   -- what stands at the place where a walk over the top level ended
@@ -38,12 +36,3 @@ module _ (msg : List ℕ) where
     by-walk least most e h =
         rw (le-leb (length msg) (length msg) (omega arith), le-leb (length msg) 65536 most, le-leb 36 (length msg) least)
         (ap from h ∙ passed-from (walk (partOf msg (length msg)) 36 1 n))
-
--- none before it: the 0-th is the one where a reader stands that was just opened
-pub nth-first : (msg : List ℕ) → nthTop msg 0 ≡ standing msg start
-unfolding nthTop step
-nth-first msg = go (lengthOk msg (length msg)) refl
-  where
-    go : (b : Bool) → lengthOk msg (length msg) ≡ b → nthTop msg 0 ≡ standing msg start
-    go true e = rw (e, walk-zero (partOf msg (length msg)) 36 1) refl
-    go false e = rw e refl

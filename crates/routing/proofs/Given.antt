@@ -4,12 +4,11 @@ use mathlib.Core.List.{List}
 use Prim.Native.Nat.{ℕ}
 use Rattle.meaning.specs.Answer.{Result, accepted, refused, andThen}
 use Rattle.meaning.specs.Trace.{Trace}
-use Rattle.meaning.proofs.Tests.{clash}
+use Rattle.meaning.proofs.Tests.{clash, same-refusal}
 use Rattle.refusals.specs.Refusals.{numberOf, placeOf}
 use Rattle.trace.specs.Locations.{answerOf, traced}
 use Rattle.trace.specs.declared.location.Answer.{Answer}
 use Rattle.trace.specs.declared.location.Answer.the-variants.{Found, Refused}
-use Rattle.trace.proofs.Entries.{same-refusal}
 use Rattle.routing.specs.Readings.{Reading, reading, given, valuesOf}
 use Rattle.routing.specs.declared.Values.{Values}
 
@@ -19,7 +18,7 @@ pub read-traced : (n : ℕ) (r : Result Trace) (a : Answer) (v : List ℕ) → a
 read-traced n (accepted t) Found v e f = rw f refl
 read-traced n (accepted t) (Refused r) v e f = absurd (clash (cc))
 read-traced n (refused k p) Found v e f = absurd (clash (cc))
-read-traced n (refused k p) (Refused r) v e f = rw (f, same-refusal {A = List ℕ} (numberOf r) (placeOf r) k p e) refl
+read-traced n (refused k p) (Refused r) v e f = rw (f, same-refusal {B = List ℕ} (numberOf r) (placeOf r) k p e) refl
 
 -- the answer that was read, by its case
 reading-answer : (r : Result (List ℕ)) → reading r .answer ≡ r

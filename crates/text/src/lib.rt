@@ -51,14 +51,6 @@ pub fn put_decimal(out: &mut [u8], at: usize, v: u32) -> usize
     at + count
 }
 
-// A place in a message, or a length.
-pub fn put_place(out: &mut [u8], at: usize, place: usize) -> usize
-    requires { ⌜ (place < 4294967296) × Room (now out) at (decimal place) ⌝ }
-    ensures { λ r. ⌜ Wrote (now (out .entry)) at (decimal place) (now (out .exit)) r ⌝ }
-{
-    put_decimal(out, at, place as u32)
-}
-
 // A number and the byte behind it.
 pub fn put_column(out: &mut [u8], at: usize, v: u32, behind: u8) -> usize
     requires { ⌜ Room (now out) at (column v behind) ⌝ }

@@ -3,4 +3,3 @@ pub mod Skipping
 mod Surveys
 pub mod Marking
 pub mod Locating
-pub mod Entries

@@ -12,22 +12,24 @@ use Rattle.meaning.specs.Names.{«MQGACF_TRACE_ROUTE», «MQGACF_ACTIVITY», ba
 use Rattle.meaning.specs.Answer.{Result, accepted, refused, andThen, unless}
 use Rattle.meaning.specs.Structure.{Row}
 use Rattle.meaning.specs.Walk.{Walked, walked, walk, rowsIn}
-use Rattle.meaning.specs.Message.{partOf, headerOk, lengthOk, closed, scan}
+use Rattle.meaning.specs.Message.{partOf, headerOk, closed, scan}
 use Rattle.meaning.specs.Trace.{Terms, Trace, sheetOk, traceFields, traceHeader, Top, groups, traceRoutes, directIn, directMembers, eachOnce, placesOf, valuesAt, inRange, readMembers, readRows, readTrace}
 use Rattle.meaning.specs.Activity.{noGroup}
 use Rattle.meaning.specs.Compose.{headerFields, traceHeaderFields}
 use Rattle.meaning.proofs.Tests.{clash, and-true, and-false}
-use Rattle.meaning.proofs.Scans.{sized, scan-walk}
 use Rattle.meaning.proofs.Walks.{Walks, walks, walks-as, walk-of, in-nil, tiles, tiles-row, tiles-from}
 use Rattle.meaning.proofs.Parts.{num-part}
 use Rattle.meaning.proofs.Tops.{TopAt, all-at, all-groups, tops-at}
-use Rattle.compose.specs.Headers.{fieldsOf, startsWith}
+use Rattle.attributes.specs.Terms.{termsOf}
+use Rattle.pcf.specs.Messages.{opened}
+use Rattle.pcf.proofs.Openings.{scan-opened, opened-sized}
+use Rattle.header.specs.Headers.{fieldsOf, startsWith}
 use Rattle.trace.specs.Passing.{isSound}
 use Rattle.trace.specs.Groups.{groupOf, counted, Surveyed, surveyed}
-use Rattle.trace.specs.Locations.{Within, stop, found, attributesBy, attributesIn, judgedIn, Outcome, traced, located}
+use Rattle.trace.specs.Locations.{Begun, Within, stop, found, attributesBy, attributesIn, judgedIn, traced}
 use Rattle.trace.specs.declared.groups.Group.{Group}
 use Rattle.trace.specs.declared.groups.Counted.{Counted}
-use Rattle.compose.specs.declared.header.Kind.the-variants.{Trace as trace}
+use Rattle.header.specs.declared.Kind.the-variants.{Trace as trace}
 use Rattle.trace.proofs.Marking.{Every, Placed, every-direct}
 
 -- WHERE THE MEMBERS of a group stand: behind its start, and in the message
@@ -208,32 +210,32 @@ module _ (tm : Terms) (buf : List ℕ) (len n : ℕ) where
   trace-unsheeted e = rw e refl
 
   module _ (ok : sheetOk (tm .sheet) ≡ true) where
-    pub trace-unscanned : (k q : ℕ) → scan buf len ≡ refused k q → stop k q ≡ traced n (readTrace tm buf len)
+    trace-unscanned : (k q : ℕ) → scan buf len ≡ refused k q → stop k q ≡ traced n (readTrace tm buf len)
     unfolding readTrace
     trace-unscanned k q e = rw (ok, e) refl
 
--- what the tests before the survey have shown, and the survey itself
-pub record Begun (tm : Terms) (buf : List ℕ) (len n count : ℕ) (s : Surveyed) : Type 0 where
-  pub ok : sheetOk (tm .sheet) ≡ true
-  pub sized : lengthOk buf len ≡ true
-  pub header : headerOk (partOf buf len) ≡ true
-  pub read : count ≡ number buf 32
+    pub trace-unopened : (k q : ℕ) → opened buf len ≡ refused k q → stop k q ≡ traced n (readTrace tm buf len)
+    trace-unopened k q e = trace-unscanned k q (scan-opened buf len ∙ rw e refl)
+
+-- WHAT THE TESTS before the structures have shown, and the survey of these
+pub record Gone (sheet buf : List ℕ) (len n count : ℕ) (s : Surveyed) : Type 0 where
+  pub begun : Begun sheet buf len count
   pub surveys : s ≡ surveyed n (walk (partOf buf len) 36 1 count)
 
-module _ {tm : Terms} {buf : List ℕ} {len n count : ℕ} {s : Surveyed} (b : Begun tm buf len n count s) where
+module _ {sheet buf : List ℕ} {len n count : ℕ} {s : Surveyed} (g : Gone sheet buf len n count s) where
   scanned : scan buf len ≡ andThen (walk (partOf buf len) 36 1 count) (closed len)
-  scanned = scan-walk buf len (b .sized) (b .header) count (b .read)
+  scanned = scan-opened buf len ∙ rw (g .begun .opens) refl
 
-  pub trace-halt : (k q : ℕ) → s .ended ≡ refused k q → stop k q ≡ traced n (readTrace tm buf len)
-  trace-halt k q f = trace-unscanned tm buf len n (b .ok) k q (scanned ∙ rw (told-refused n (walk (partOf buf len) 36 1 count) s k q (b .surveys) f) refl)
+  pub trace-halt : (k q : ℕ) → s .ended ≡ refused k q → stop k q ≡ traced n (readTrace (termsOf sheet) buf len)
+  trace-halt k q f = trace-unscanned (termsOf sheet) buf len n (g .begun .sheeted) k q (scanned ∙ rw (told-refused n (walk (partOf buf len) 36 1 count) s k q (g .surveys) f) refl)
 
   module _ (q : ℕ) (f : s .ended ≡ accepted q) where
     t : Told n (walk (partOf buf len) 36 1 count) s q
-    t = told n (walk (partOf buf len) 36 1 count) s q (b .surveys) f
+    t = told n (walk (partOf buf len) 36 1 count) s q (g .surveys) f
 
-    pub trace-left : (q ≡ len → ⊥) → stop leftOver q ≡ traced n (readTrace tm buf len)
+    pub trace-left : (q ≡ len → ⊥) → stop leftOver q ≡ traced n (readTrace (termsOf sheet) buf len)
     unfolding closed
-    trace-left d = trace-unscanned tm buf len n (b .ok) leftOver q (scanned ∙ rw (t .over, ne-eqb q len d) refl)
+    trace-left d = trace-unscanned (termsOf sheet) buf len n (g .begun .sheeted) leftOver q (scanned ∙ rw (t .over, ne-eqb q len d) refl)
 
     module _ (z : q ≡ len) where
       tree : Walks (partOf buf len) 36 1 count (t .rows) len
@@ -243,15 +245,15 @@ module _ {tm : Terms} {buf : List ℕ} {len n count : ℕ} {s : Surveyed} (b : B
       unfolding closed
       whole-rows = scanned ∙ ap (λ (x : Result Walked). andThen x (closed len)) (t .over) ∙ rw (eq-eqb q len z) refl
 
-      whole-read : readTrace tm buf len ≡ readRows (tm .sheet) (partOf buf len) (t .rows)
+      whole-read : readTrace (termsOf sheet) buf len ≡ readRows sheet (partOf buf len) (t .rows)
       unfolding readTrace
-      whole-read = rw (b .ok) (ap (λ (x : Result (List Row)). andThen x (readRows (tm .sheet) (partOf buf len))) whole-rows)
+      whole-read = rw (g .begun .sheeted) (ap (λ (x : Result (List Row)). andThen x (readRows sheet (partOf buf len))) whole-rows)
 
-      pub trace-whole : judgedIn (tm .sheet) (partOf buf len) (s .routes) (s .activities .group) ≡ traced n (readTrace tm buf len)
+      pub trace-whole : judgedIn sheet (partOf buf len) (s .routes) (s .activities .group) ≡ traced n (readTrace (termsOf sheet) buf len)
       trace-whole =
-          ap (λ (x : Counted). judgedIn (tm .sheet) (partOf buf len) x (s .activities .group)) (t .routes)
-          ∙ ap (λ (x : Counted). judgedIn (tm .sheet) (partOf buf len) (counted «MQGACF_TRACE_ROUTE» 0 (t .rows)) (x .group)) (t .activities)
-          ∙ sym (rows-read (partOf buf len) 36 count (t .rows) tree (tm .sheet) n) ∙ ap (traced n) (sym whole-read)
+          ap (λ (x : Counted). judgedIn sheet (partOf buf len) x (s .activities .group)) (t .routes)
+          ∙ ap (λ (x : Counted). judgedIn sheet (partOf buf len) (counted «MQGACF_TRACE_ROUTE» 0 (t .rows)) (x .group)) (t .activities)
+          ∙ sym (rows-read (partOf buf len) 36 count (t .rows) tree sheet n) ∙ ap (traced n) (sym whole-read)
 
       -- the survey went over the members of the one TraceRoute group
       pub route-within : s .routes .count ≡ 1 → Within buf len (s .routes .group .inside) (s .routes .group .members)
@@ -260,13 +262,8 @@ module _ {tm : Terms} {buf : List ℕ} {len n count : ℕ} {s : Surveyed} (b : B
           subst (λ (x : Counted). x .count ≡ 1 → Within buf len (x .group .inside) (x .group .members)) (sym (t .routes))
           (λ i.
           let first : 0 < length (traceRoutes (t .rows)) = omega arith in
-          let z = sized buf len (b .sized) in
+          let z = opened-sized buf len count (g .begun .opens) in
           record {
             known = record { there = z .there; most = z .most; sound = ap isSound (nth-walk (partOf buf len) 36 count (t .rows) tree «MQGACF_TRACE_ROUTE» 0 first) };
             behind = omega (arith, nth-behind (partOf buf len) 36 count (t .rows) tree «MQGACF_TRACE_ROUTE» 0 first);
           })
-
--- without the Activity group
-pub located-traced : (n : ℕ) (r : Result Trace) (o : Outcome) → o ≡ traced n r → record { answer = o .answer; places = o .places; values = o .values } ≡ located r
-located-traced n (accepted t) o e = ap (λ (x : Outcome). record { answer = x .answer; places = x .places; values = x .values }) e
-located-traced n (refused k p) o e = ap (λ (x : Outcome). record { answer = x .answer; places = x .places; values = x .values }) e

@@ -22,9 +22,9 @@ use Rattle.meaning.proofs.Fuel.{walk-zero}
 use Rattle.meaning.proofs.Parts.{num-part, row-kind, row-parameter}
 use Rattle.meaning.proofs.Attributes.{getD-map, once-at}
 use Rattle.meaning.proofs.Tops.{direct-next}
-use Rattle.trace.specs.Passing.{passed, behindOf}
+use Rattle.trace.specs.Passing.{crossed, behindOf}
 use Rattle.trace.specs.Marks.{onto, noted, notedIn, markFrom, Marked, allFound, InReach}
-use Rattle.attributes.proofs.Lists.{rest-none, rest-next}
+use Rattle.meaning.proofs.Lists.{rest-none, rest-next}
 use Rattle.trace.proofs.Turns.{Over, walk-over}
 use Rattle.trace.proofs.Skipping.{behind-over}
 
@@ -204,7 +204,7 @@ module _ (m : Part) (p left : ℕ) (due : 0 < left) where
         go (refused k x) = refl
 
 -- the same with the fields that were read, and the place behind
-pub mark-read : (s : List ℕ) (len p left q kind parameter : ℕ) → 0 < left → behindOf (passed (partOf s len) p 2) ≡ accepted q → kind ≡ number s p
+pub mark-read : (s : List ℕ) (len p left q kind parameter : ℕ) → 0 < left → behindOf (crossed (partOf s len) p 2) ≡ accepted q → kind ≡ number s p
     → parameter ≡ number s (p + 8) → (id mark : ℕ)
     → markFrom id mark (walk (partOf s len) p 2 left) ≡ markFrom id (noted id mark kind parameter p) (walk (partOf s len) q 2 (left - 1))
 mark-read s len p left q kind parameter due b k j id mark =

@@ -9,12 +9,12 @@ use Rattle.meaning.specs.Names.{«MQCFT_GROUP», mostDepth}
 use Rattle.meaning.specs.Answer.{Result, accepted, refused, andThen}
 use Rattle.meaning.specs.Structure.{Row, structureAt}
 use Rattle.meaning.specs.Walk.{Walked, walked, walk}
-use Rattle.meaning.specs.Message.{partOf, Stepped}
+use Rattle.meaning.specs.Message.{partOf}
 use Rattle.meaning.proofs.Tests.{clash, then-accepted}
 use Rattle.meaning.proofs.Structures.{row-at}
 use Rattle.meaning.proofs.Members.{group-members, group-shallow, members-group}
 use Rattle.meaning.proofs.Parts.{num-part, row-room, row-kind, row-size}
-use Rattle.trace.specs.Passing.{passed, behindOf, isSound}
+use Rattle.trace.specs.Passing.{Crossed, crossed, behindOf, isSound}
 use Rattle.trace.proofs.Turns.{Over, over, walk-halt, walk-over, pass-over, pass-plain}
 
 -- A STRUCTURE that is sound was passed over
@@ -22,29 +22,29 @@ accepted-of : {A : Type 0} (x : Result A) → isSound x ≡ true → (a : A) × 
 accepted-of (accepted a) e = (a, refl)
 accepted-of (refused k q) e = absurd (clash (cc))
 
-pub known-over : (m : Part) (p d : ℕ) → isSound (passed m p d) ≡ true → (s : Stepped) × Over m p d (s .row) (s .next)
-known-over m p d h = let a = accepted-of (passed m p d) h in (a .0, over m p d (a .0 .row) (a .0 .next) (a .1))
+pub known-over : (m : Part) (p d : ℕ) → isSound (crossed m p d) ≡ true → (s : Crossed) × Over m p d (s .row) (s .next)
+known-over m p d h = let a = accepted-of (crossed m p d) h in (a .0, over m p d (a .0 .row) (a .0 .next) (a .1))
 
 -- with 16 bytes or more
-pub known-room : (m : Part) (p d : ℕ) → isSound (passed m p d) ≡ true → p + 16 ≤ m .end
+pub known-room : (m : Part) (p d : ℕ) → isSound (crossed m p d) ≡ true → p + 16 ≤ m .end
 known-room m p d h =
     let o = known-over m p d h in
     let g = row-at m p d (o .0 .row) (o .1 .there) in
     omega (arith, g .at-fits, g .at-least)
 
 -- the same, by the place behind it
-pub behind-over : (m : Part) (p d q : ℕ) → behindOf (passed m p d) ≡ accepted q → (r : Row) × Over m p d r q
+pub behind-over : (m : Part) (p d q : ℕ) → behindOf (crossed m p d) ≡ accepted q → (r : Row) × Over m p d r q
 behind-over m p d q e =
-    let f = then-accepted (passed m p d) (λ s. accepted (s .next)) q e in
+    let f = then-accepted (crossed m p d) (λ s. accepted (s .next)) q e in
     let z : f .0 .next ≡ q = cc (f .2) in
     (f .0 .row, over m p d (f .0 .row) q (f .1 ∙ ap (λ (x : ℕ). accepted (record { row = f .0 .row; next = x })) z))
 
 -- A WALK that is sound: so is its first structure, and so is the rest
 module _ (m : Part) (p d n : ℕ) (due : 0 < n) (sound : isSound (walk m p d n) ≡ true) where
-  pub sound-first : isSound (passed m p d) ≡ true
-  sound-first = go (passed m p d) refl
+  pub sound-first : isSound (crossed m p d) ≡ true
+  sound-first = go (crossed m p d) refl
     where
-      go : (x : Result Stepped) → passed m p d ≡ x → isSound x ≡ true
+      go : (x : Result Crossed) → crossed m p d ≡ x → isSound x ≡ true
       go (accepted s) e = refl
       go (refused k q) e = ap (isSound {A = Walked}) (sym (walk-halt m p d n due k q e)) ∙ sound
 
@@ -69,14 +69,14 @@ module _ (s : List ℕ) (len p d : ℕ) (r : Row) (t : structureAt (partOf s len
       go (suc n) e = absurd (k (members-group (partOf s len) p d r t (omega arith)))
 
 -- its length, as it was read, fits
-pub known-fits : (s : List ℕ) (len p d size : ℕ) → isSound (passed (partOf s len) p d) ≡ true → size ≡ number s (p + 4) → p + size ≤ len
+pub known-fits : (s : List ℕ) (len p d size : ℕ) → isSound (crossed (partOf s len) p d) ≡ true → size ≡ number s (p + 4) → p + size ≤ len
 known-fits s len p d size h e =
     let o = known-over (partOf s len) p d h in
     omega (arith, row-at (partOf s len) p d (o .0 .row) (o .1 .there) .at-fits, e ∙ row-size s len p d (o .0 .row) (o .1 .there))
 
 -- THE PLACE BEHIND IT, by the fields that were read
 pub record Seen (s : List ℕ) (len p d size kind : ℕ) : Type 0 where
-  pub sound : isSound (passed (partOf s len) p d) ≡ true
+  pub sound : isSound (crossed (partOf s len) p d) ≡ true
   pub is-size : size ≡ number s (p + 4)
   pub is-kind : kind ≡ number s p
 
@@ -84,7 +84,7 @@ module _ {s : List ℕ} {len p d size kind : ℕ} (f : Seen s len p d size kind)
   abbrev m : Part
   m = partOf s len
 
-  known : (x : Stepped) × Over m p d (x .row) (x .next)
+  known : (x : Crossed) × Over m p d (x .row) (x .next)
   known = known-over m p d (f .sound)
 
   abbrev row : Row
@@ -99,7 +99,7 @@ module _ {s : List ℕ} {len p d size kind : ℕ} (f : Seen s len p d size kind)
   row-as-size : size ≡ row .size
   row-as-size = f .is-size ∙ row-size s len p d row there
 
-  pub behind-plain : (kind ≡ «MQCFT_GROUP» → ⊥) → behindOf (passed m p d) ≡ accepted (p + size)
+  pub behind-plain : (kind ≡ «MQCFT_GROUP» → ⊥) → behindOf (crossed m p d) ≡ accepted (p + size)
   behind-plain k =
       let z = row-plain s len p d row there (λ e. k (row-as-kind ∙ e)) in
       sym (ap behindOf (pass-plain m p d row there z)) ∙ ap (λ (x : ℕ). accepted (p + x)) (sym row-as-size)
@@ -118,5 +118,5 @@ module _ {s : List ℕ} {len p d size kind : ℕ} (f : Seen s len p d size kind)
           let z : walked (known .1 .inside) (known .0 .next) ≡ refused k q = sym (known .1 .within) ∙ inside ∙ e in
           clash (cc)
 
-      pub behind-group : (rows : List Row) (q : ℕ) → walk m (p + size) (d + 1) members ≡ walked rows q → behindOf (passed m p d) ≡ accepted q
+      pub behind-group : (rows : List Row) (q : ℕ) → walk m (p + size) (d + 1) members ≡ walked rows q → behindOf (crossed m p d) ≡ accepted q
       behind-group rows q e = sym (ap behindOf (pass-over m p d row there rows q (inside ∙ e)))

@@ -23,7 +23,7 @@ use Rattle.meaning.proofs.Tops.{until-walk, tops-next}
 use Rattle.trace.specs.declared.groups.Group.{Group}
 use Rattle.trace.specs.declared.groups.Counted.{Counted}
 use Rattle.trace.specs.Groups.{noGroupYet, noneYet, groupOf, counted, countRow, Surveyed, surveyed}
-use Rattle.trace.specs.Passing.{passed}
+use Rattle.trace.specs.Passing.{crossed}
 use Rattle.trace.proofs.Turns.{Over, walk-halt, walk-over}
 
 -- one more group
@@ -117,7 +117,7 @@ count-le id n c r q = go (eqb (r .kind) «MQCFT_GROUP» && eqb (r .parameter) id
     go false = omega arith
 
 module _ (m : Part) (p left n : ℕ) (a b : Counted) (due : 0 < left) where
-  pub survey-halt : (k q : ℕ) → passed m p 1 ≡ refused k q → surveyFrom n a b (walk m p 1 left) ≡ record { ended = refused k q; routes = noneYet; activities = noneYet }
+  pub survey-halt : (k q : ℕ) → crossed m p 1 ≡ refused k q → surveyFrom n a b (walk m p 1 left) ≡ record { ended = refused k q; routes = noneYet; activities = noneYet }
   survey-halt k q e = rw (walk-halt m p 1 left due k q e) refl
 
   module _ (r : Row) (q : ℕ) (o : Over m p 1 r q) where

@@ -7,44 +7,42 @@ use Rattle.meaning.specs.Bytes.{Part}
 use Rattle.meaning.specs.Answer.{Result, accepted, refused, andThen}
 use Rattle.meaning.specs.Structure.{Row, structureAt}
 use Rattle.meaning.specs.Walk.{Walked, walked, ahead, enter, walk}
-use Rattle.meaning.specs.Message.{Stepped}
 use Rattle.meaning.proofs.Tests.{clash, then-accepted}
 use Rattle.meaning.proofs.Walks.{walks, walks-le}
 use Rattle.meaning.proofs.Fuel.{walk-zero}
 use Rattle.structure.specs.Rows.{rowOf}
-use Rattle.pcf.specs.Messages.{steppedOf}
 use Rattle.walk.proofs.Turns.{unfolded, walk-on}
 use Rattle.refusals.specs.declared.Refusal.{Refusal}
 use Rattle.refusals.specs.Refusals.{refusal}
 use Rattle.structure.specs.declared.structure.Row.{Row as Found·Row}
-use Rattle.pcf.specs.declared.message.Stepped.{Stepped as Steps}
-use Rattle.pcf.specs.declared.message.Stepped.the-variants as steps
-use Rattle.trace.specs.Passing.{passed}
+use Rattle.trace.specs.declared.passing.Crossing.{Crossing}
+use Rattle.trace.specs.declared.passing.Crossing.the-variants as crossing
+use Rattle.trace.specs.Passing.{Crossed, crossed, crossingOf}
 
 -- what the code has found, in the meaning's terms
-pub is-step : {f : Steps} {x : Result Stepped} {r : Found·Row} {q : ℕ} → steppedOf f ≡ x → f ≡ steps.Structure r q → x ≡ accepted (record { row = rowOf r; next = q })
-is-step e h = sym e ∙ ap steppedOf h
+pub is-over : {f : Crossing} {x : Result Crossed} {r : Found·Row} {q : ℕ} → crossingOf f ≡ x → f ≡ crossing.Over r q → x ≡ accepted (record { row = rowOf r; next = q })
+is-over e h = sym e ∙ ap crossingOf h
 
-pub is-stop : {f : Steps} {x : Result Stepped} {q : Refusal} → steppedOf f ≡ x → f ≡ steps.Refused q → x ≡ refusal q
-is-stop e h = sym e ∙ ap steppedOf h
+pub is-stop : {f : Crossing} {x : Result Crossed} {q : Refusal} → crossingOf f ≡ x → f ≡ crossing.Refused q → x ≡ refusal q
+is-stop e h = sym e ∙ ap crossingOf h
 
 -- WHAT IS PASSED, by what the structure and the walk inside it come to
 module _ (m : Part) (p d : ℕ) where
-  pub pass-refused : (k q : ℕ) → structureAt m p d ≡ refused k q → refused k q ≡ passed m p d
-  unfolding passed
+  pub pass-refused : (k q : ℕ) → structureAt m p d ≡ refused k q → refused k q ≡ crossed m p d
+  unfolding crossed
   pass-refused k q t = rw t refl
 
   module _ (r : Row) (t : structureAt m p d ≡ accepted r) where
-    pub pass-halt : (k q : ℕ) → walk m (p + r .size) (d + 1) (r .members) ≡ refused k q → refused k q ≡ passed m p d
-    unfolding passed
+    pub pass-halt : (k q : ℕ) → walk m (p + r .size) (d + 1) (r .members) ≡ refused k q → refused k q ≡ crossed m p d
+    unfolding crossed
     pass-halt k q e = rw (t, e) refl
 
     pub pass-over : (rows : List Row) (q : ℕ) → walk m (p + r .size) (d + 1) (r .members) ≡ walked rows q
-        → accepted (record { row = r; next = q }) ≡ passed m p d
-    unfolding passed
+        → accepted (record { row = r; next = q }) ≡ crossed m p d
+    unfolding crossed
     pass-over rows q e = rw (t, e) refl
 
-    pub pass-plain : r .members ≡ 0 → accepted (record { row = r; next = p + r .size }) ≡ passed m p d
+    pub pass-plain : r .members ≡ 0 → accepted (record { row = r; next = p + r .size }) ≡ crossed m p d
     pass-plain z = pass-over [] (p + r .size) (rw (z, walk-zero m (p + r .size) (d + 1)) refl)
 
 -- a structure that was passed over
@@ -53,15 +51,15 @@ pub record Over (m : Part) (p d : ℕ) (r : Row) (q : ℕ) : Type 0 where
   pub inside : List Row
   pub within : walk m (p + r .size) (d + 1) (r .members) ≡ walked inside q
 
-pub over : (m : Part) (p d : ℕ) (r : Row) (q : ℕ) → passed m p d ≡ accepted (record { row = r; next = q }) → Over m p d r q
-unfolding passed
+pub over : (m : Part) (p d : ℕ) (r : Row) (q : ℕ) → crossed m p d ≡ accepted (record { row = r; next = q }) → Over m p d r q
+unfolding crossed
 over m p d r q e =
-    let s : Stepped = record { row = r; next = q } in
+    let s : Crossed = record { row = r; next = q } in
     let f = then-accepted (structureAt m p d) _ s e in
     let g = then-accepted (walk m (p + f .0 .size) (d + 1) (f .0 .members)) _ s (f .2) in
-    let h : _≡_ {A = Stepped} (record { row = f .0; next = g .0 .next }) s = cc (g .2) in
-    let a : f .0 ≡ r = ap (λ (x : Stepped). x .row) h in
-    let b : g .0 .next ≡ q = ap (λ (x : Stepped). x .next) h in
+    let h : _≡_ {A = Crossed} (record { row = f .0; next = g .0 .next }) s = cc (g .2) in
+    let a : f .0 ≡ r = ap (λ (x : Crossed). x .row) h in
+    let b : g .0 .next ≡ q = ap (λ (x : Crossed). x .next) h in
     record {
       there = f .1 ∙ ap accepted a;
       inside = g .0 .rows;
@@ -70,12 +68,12 @@ over m p d r q e =
 
 -- ONE TURN of a walk
 -- the structure and the place behind it, from the walk inside it
-abbrev stepTo : Row → Walked → Result Stepped
+abbrev stepTo : Row → Walked → Result Crossed
 stepTo r w = accepted (record { row = r; next = w .next })
 
 module _ (m : Part) (p d n : ℕ) (due : 0 < n) where
-  pub walk-halt : (k q : ℕ) → passed m p d ≡ refused k q → walk m p d n ≡ refused k q
-  unfolding passed
+  pub walk-halt : (k q : ℕ) → crossed m p d ≡ refused k q → walk m p d n ≡ refused k q
+  unfolding crossed
   walk-halt k q e = unfolded m p d n due ∙ go (structureAt m p d) e
     where
       inner : (r : Row) (w : Result Walked) → andThen w (stepTo r) ≡ refused k q

@@ -11,15 +11,15 @@ use Rattle.meaning.specs.Answer.{Result, accepted, refused, unless}
 use Rattle.meaning.specs.Structure.{Row}
 use Rattle.meaning.specs.Walk.{rowsIn, walk}
 use Rattle.meaning.specs.Message.{partOf, headerOk}
-use Rattle.meaning.specs.Trace.{traceHeader, directIn, eachOnce, placesOf, valuesAt, inRange, Trace}
+use Rattle.meaning.specs.Trace.{sheetOk, traceHeader, directIn, eachOnce, placesOf, valuesAt, inRange, Trace}
 use Rattle.refusals.specs.Refusals.{refusal}
+use Rattle.pcf.specs.Messages.{opened}
 use Rattle.trace.specs.Passing.{Known}
 use Rattle.trace.specs.Groups.{noGroupYet, counted}
 use Rattle.trace.specs.declared.groups.Group.{Group}
 use Rattle.trace.specs.declared.groups.Counted.{Counted}
 use Rattle.trace.specs.declared.location.Answer.{Answer}
 use Rattle.trace.specs.declared.location.Answer.the-variants.{Found, Refused}
-use Rattle.trace.specs.declared.location.Located.{Located}
 use Rattle.trace.specs.declared.location.Traced.{Traced}
 
 -- that there is a sound trace; the rest of the answer says which
@@ -30,23 +30,10 @@ abbrev pub answerOf : Answer → Result Done
 answerOf Found = accepted done
 answerOf (Refused r) = refusal r
 
--- THE PLACES AND THE VALUES of what Read gives: all 0 if it refuses
-pub record Attributes : Type 0 where
-  pub answer : Result Done
-  pub places : List ℕ
-  pub values : List ℕ
-
 abbrev pub none : List ℕ
 none = replicate attributes 0
 
-abbrev pub located : Result Trace → Attributes
-located (accepted t) = record { answer = accepted done; places = t .places; values = t .values }
-located (refused k p) = record { answer = refused k p; places = none; values = none }
-
-abbrev pub locatedOf : Located → Attributes
-locatedOf r = record { answer = answerOf (r .answer); places = r .places; values = r .values }
-
--- the same, with an Activity group
+-- THE PLACES AND THE VALUES of what Read gives, and an Activity group: all 0 if it refuses
 pub record Outcome : Type 0 where
   pub answer : Result Done
   pub places : List ℕ
@@ -82,6 +69,11 @@ judgedIn sheet m routes activity =
     unless (traceHeader m) (stop noTraceHeader 0)
     (unless (eqb (routes .count) 1) (stop noTraceRoute 0)
     (attributesIn sheet m (routes .group .inside) (routes .group .members) activity))
+
+-- the tests before the structures have passed: the sheet's, the length's and the header's, which has this count
+pub record Begun (sheet msg : List ℕ) (len count : ℕ) : Type 0 where
+  pub sheeted : sheetOk sheet ≡ true
+  pub opens : opened msg len ≡ accepted count
 
 -- a group's members are sound, and stand behind the header
 pub record Within (msg : List ℕ) (len inside members : ℕ) : Type 0 where

@@ -6,18 +6,30 @@ use mathlib.Core.List.{List}
 use lib.ListN.{length}
 use Rattle.meaning.specs.Bytes.{Part}
 use Rattle.meaning.specs.Answer.{Result, accepted, refused, andThen}
-use Rattle.meaning.specs.Structure.{structureAt}
+use Rattle.meaning.specs.Structure.{Row, structureAt}
 use Rattle.meaning.specs.Names.{mostBytes}
 use Rattle.meaning.specs.Walk.{walk}
-use Rattle.meaning.specs.Message.{Stepped}
+use Rattle.refusals.specs.Refusals.{refusal}
+use Rattle.structure.specs.Rows.{rowOf}
+use Rattle.trace.specs.declared.passing.Crossing.{Crossing}
+use Rattle.trace.specs.declared.passing.Crossing.the-variants as crossing
 
--- the structure at p of the depth d, and the place behind all that is inside it
-unfoldable pub passed : Part → ℕ → ℕ → Result Stepped
-passed m p d =
+-- a structure, and the place behind all that is inside it
+pub record Crossed : Type 0 where
+  pub row : Row
+  pub next : ℕ
+
+-- the structure at p of the depth d
+unfoldable pub crossed : Part → ℕ → ℕ → Result Crossed
+crossed m p d =
     andThen (structureAt m p d) (λ r. andThen (walk m (p + r .size) (d + 1) (r .members)) (λ w. accepted (record { row = r; next = w .next })))
 
--- the place behind what was passed
-abbrev pub behindOf : Result Stepped → Result ℕ
+abbrev pub crossingOf : Crossing → Result Crossed
+crossingOf (crossing.Over r q) = accepted (record { row = rowOf r; next = q })
+crossingOf (crossing.Refused r) = refusal r
+
+-- the place behind what was passed over
+abbrev pub behindOf : Result Crossed → Result ℕ
 behindOf x = andThen x (λ s. accepted (s .next))
 
 -- what is given, and not refused

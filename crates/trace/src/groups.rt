@@ -1,7 +1,8 @@
 // The top-level groups of a message: the TraceRoute group, and the n-th Activity group.
+use crate::passing::Crossing;
 use crate::passing::pass;
-use compose::MQGACF_TRACE_ROUTE;
-use pcf::Stepped;
+use attributes::MQGACF_ACTIVITY;
+use attributes::MQGACF_TRACE_ROUTE;
 use refusals::Refusal;
 use structure::MQCFT_GROUP;
 use structure::Row;
@@ -14,9 +15,6 @@ ghost use Rattle.meaning.specs.Message.{partOf};
 ghost use Rattle.refusals.specs.Refusals.{refusal};
 ghost use Rattle.structure.specs.Rows.{rowOf};
 ghost use Rattle.trace.specs.Groups.{noGroupYet, noneYet, countRow, Countable, surveyOf, surveyed};
-
-// The identifier of an Activity group.
-pub const MQGACF_ACTIVITY: u32 = 8005;
 
 // A group: its place, the place of what is inside it, its length with all of that, and how many direct members it has.
 pub struct Group {
@@ -111,12 +109,12 @@ pub fn survey(msg: &[u8], len: usize, count: u32, n: usize) -> Tops
     let mut routes = none_yet();
     let mut activities = none_yet();
     while 0 < left {
-        let stepped = pass(msg, len, at, 1);
-        match stepped {
-            Stepped::Refused(r) => {
+        let crossing = pass(msg, len, at, 1);
+        match crossing {
+            Crossing::Refused(r) => {
                 return halted(r);
             }
-            Stepped::Structure(row, behind) => {
+            Crossing::Over(row, behind) => {
                 let more_routes = count_row(routes, MQGACF_TRACE_ROUTE, 0, row, behind);
                 let more_activities = count_row(activities, MQGACF_ACTIVITY, n, row, behind);
                 routes = more_routes;

@@ -5,10 +5,7 @@ mod members;
 mod passing;
 
 pub use groups::Group;
-pub use groups::MQGACF_ACTIVITY;
 pub use location::Answer;
-pub use location::Located;
 pub use location::Traced;
-pub use location::locate;
 pub use location::trace_of;
 pub use passing::behind;

@@ -8,19 +8,18 @@ use crate::members::marks_of;
 use crate::members::values_at;
 use attributes::in_range;
 use attributes::sheet_ok;
-use compose::Kind;
-use compose::has_header;
-use pcf::header_ok;
-use pcf::length_ok;
+use header::Kind;
+use header::has_header;
+use pcf::Opening;
+use pcf::opened;
 use refusals::Refusal;
 use walk::Ended;
-use wire::number_at;
 ghost use mathlib.Core.Path.{_≡_};
 ghost use Rattle.meaning.specs.Message.{partOf};
 ghost use Rattle.meaning.specs.Trace.{readTrace};
 ghost use Rattle.refusals.specs.Refusals.{numberOf, placeOf};
 ghost use Rattle.attributes.specs.Terms.{termsOf};
-ghost use Rattle.trace.specs.Locations.{Within, Headed, stop, tracedOf, attributesIn, judgedIn, traced, locatedOf, located};
+ghost use Rattle.trace.specs.Locations.{Begun, Within, Headed, stop, tracedOf, attributesIn, judgedIn, traced};
 
 // A sound trace, or 17, then 1 to 8.
 pub enum Answer {
@@ -28,14 +27,7 @@ pub enum Answer {
     Refused(Refusal),
 }
 
-// The places and the values of the eight attributes of a sound trace; all 0 if refused.
-pub struct Located {
-    pub answer: Answer,
-    pub places: [usize; 8],
-    pub values: [u32; 8],
-}
-
-// The same, with an Activity group.
+// The places and the values of the eight attributes of a sound trace, and an Activity group; all 0 if refused.
 pub struct Traced {
     pub answer: Answer,
     pub places: [usize; 8],
@@ -107,20 +99,11 @@ fn judge(
     attributes(msg, len, sheet, route.inside, route.members, activity)
 }
 
-// A trace with its attributes and its n-th Activity group.
-pub fn trace_of(msg: &[u8], len: usize, sheet: [u32; 8], n: usize) -> Traced
+// 3 to 8: all structures are gone over, and nothing may follow; then the trace is judged by the groups that were met.
+fn walked(msg: &[u8], len: usize, sheet: [u32; 8], count: u32, n: usize) -> Traced
+    requires { ⌜ Begun sheet (now msg) len count ⌝ }
     ensures { λ t. ⌜ tracedOf t ≡ traced n (readTrace (termsOf sheet) (now (msg .entry)) len) ⌝ }
 {
-    if !sheet_ok(sheet) {
-        return stopped(Refusal::BadSheet);
-    }
-    if !length_ok(msg, len) {
-        return stopped(Refusal::BadLength);
-    }
-    let count = number_at(msg, 32);
-    if !header_ok(msg, count) {
-        return stopped(Refusal::BadHeader);
-    }
     let tops = survey(msg, len, count, n);
     let ended = tops.ended;
     match ended {
@@ -136,17 +119,16 @@ pub fn trace_of(msg: &[u8], len: usize, sheet: [u32; 8], n: usize) -> Traced
     }
 }
 
-// LOCATE: the places and the values of the eight attributes.
-pub fn locate(msg: &[u8], len: usize, sheet: [u32; 8]) -> Located
-    ensures { λ r. ⌜ locatedOf r ≡ located (readTrace (termsOf sheet) (now (msg .entry)) len) ⌝ }
+// TRACE: the attributes of a message and its n-th Activity group. 17 comes first, then 1 and 2, then the structures.
+pub fn trace_of(msg: &[u8], len: usize, sheet: [u32; 8], n: usize) -> Traced
+    ensures { λ t. ⌜ tracedOf t ≡ traced n (readTrace (termsOf sheet) (now (msg .entry)) len) ⌝ }
 {
-    let t = trace_of(msg, len, sheet, 0);
-    let answer = t.answer;
-    let places = t.places;
-    let values = t.values;
-    Located {
-        answer,
-        places,
-        values,
+    if !sheet_ok(sheet) {
+        return stopped(Refusal::BadSheet);
+    }
+    let opening = opened(msg, len);
+    match opening {
+        Opening::Refused(r) => stopped(r),
+        Opening::Count(count) => walked(msg, len, sheet, count, n),
     }
 }

@@ -1,5 +1,5 @@
 // Passing over a structure with all that is inside it.
-use pcf::Stepped;
+use refusals::Refusal;
 use structure::Extent;
 use structure::MQCFT_GROUP;
 use structure::Row;
@@ -12,17 +12,22 @@ ghost use Prim.Native.Nat.{_≤_};
 ghost use lib.ListN.{length};
 ghost use Rattle.meaning.specs.Answer.{accepted};
 ghost use Rattle.meaning.specs.Message.{partOf};
-ghost use Rattle.pcf.specs.Messages.{steppedOf};
-ghost use Rattle.trace.specs.Passing.{passed, behindOf, Known};
+ghost use Rattle.trace.specs.Passing.{crossingOf, crossed, behindOf, Known};
 
-// The structure at `place`, of this depth, and the place behind all that is inside it, or the first fault there.
-pub fn pass(msg: &[u8], len: usize, place: usize, depth: u32) -> Stepped
+// A structure and the place behind all that is inside it, or the first fault there.
+pub enum Crossing {
+    Over(Row, usize),
+    Refused(Refusal),
+}
+
+// Passes over the structure at `place`, of this depth, and all that is inside it.
+pub fn pass(msg: &[u8], len: usize, place: usize, depth: u32) -> Crossing
     requires { ⌜ (len ≤ length (now msg)) × (len ≤ 65536) ⌝ }
-    ensures { λ r. ⌜ steppedOf r ≡ passed (partOf (now (msg .entry)) len) place depth ⌝ }
+    ensures { λ r. ⌜ crossingOf r ≡ crossed (partOf (now (msg .entry)) len) place depth ⌝ }
 {
     let found = extent_at(msg, len, place, depth);
     match found {
-        Extent::Refused(r) => Stepped::Refused(r),
+        Extent::Refused(r) => Crossing::Refused(r),
         Extent::Sound(size, members) => {
             let row = Row {
                 depth,
@@ -34,12 +39,12 @@ pub fn pass(msg: &[u8], len: usize, place: usize, depth: u32) -> Stepped
             };
             let next = place + size as usize;
             if members == 0 {
-                return Stepped::Structure(row, next);
+                return Crossing::Over(row, next);
             }
             let inner = over(msg, len, next, depth + 1, members);
             match inner {
-                Passed::Refused(r) => Stepped::Refused(r),
-                Passed::Behind(behind, _) => Stepped::Structure(row, behind),
+                Passed::Refused(r) => Crossing::Refused(r),
+                Passed::Behind(behind, _) => Crossing::Over(row, behind),
             }
         }
     }
@@ -48,8 +53,8 @@ pub fn pass(msg: &[u8], len: usize, place: usize, depth: u32) -> Stepped
 // The place behind a structure that is known to be sound, and behind all that is inside it. Its fields are read and not checked
 // again: whoever goes over the members of a group that was surveyed asks this of each.
 pub fn behind(msg: &[u8], len: usize, place: usize, depth: u32) -> usize
-    requires { ⌜ Known (now msg) len (passed (partOf (now msg) len) place depth) ⌝ }
-    ensures { λ r. ⌜ behindOf (passed (partOf (now (msg .entry)) len) place depth) ≡ accepted r ⌝ }
+    requires { ⌜ Known (now msg) len (crossed (partOf (now msg) len) place depth) ⌝ }
+    ensures { λ r. ⌜ behindOf (crossed (partOf (now (msg .entry)) len) place depth) ≡ accepted r ⌝ }
 {
     let next = place + number_at(msg, place + 4) as usize;
     if number_at(msg, place) != MQCFT_GROUP {

@@ -11,7 +11,7 @@ use Rattle.meaning.specs.Walk.{walk}
 use Rattle.meaning.specs.Message.{partOf}
 use Rattle.meaning.specs.Activity.{inMessage}
 use Rattle.meaning.proofs.Parts.{num-part}
-use Rattle.trace.specs.Passing.{passed, isSound}
+use Rattle.trace.specs.Passing.{crossed, isSound}
 use Rattle.trace.proofs.Turns.{Over}
 use Rattle.trace.proofs.Skipping.{known-over, known-room, behind-over, sound-first, sound-next}
 use Rattle.activities.specs.Naming.{stringIn}
@@ -29,7 +29,7 @@ abbrev μ-loop : tie.MeasureT-loop
 μ-loop msg len place count id at₀ left₀ at left = left
 
 -- the member is sound, and has 16 bytes or more in the message
-sound : (c : tie.In-loop Inv-loop μ-loop) → isSound (passed (partOf (now (c .before .before .before .args .msg)) (c .before .before .before .args .len)) (c .before .loop .at) 2) ≡ true
+sound : (c : tie.In-loop Inv-loop μ-loop) → isSound (crossed (partOf (now (c .before .before .before .args .msg)) (c .before .before .before .args .len)) (c .before .loop .at) 2) ≡ true
 sound c = sound-first _ _ _ _ (c .loop-test .taken) (c .before .loop .inv .1)
 
 room : (c : tie.In-loop Inv-loop μ-loop) → c .before .loop .at + 16 ≤ c .before .before .before .args .len

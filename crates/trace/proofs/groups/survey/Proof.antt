@@ -9,7 +9,7 @@ use Rattle.meaning.specs.Walk.{walk}
 use Rattle.meaning.specs.Message.{partOf}
 use Rattle.meaning.proofs.Structures.{row-at}
 use Rattle.trace.specs.Groups.{surveyed}
-use Rattle.trace.proofs.Turns.{is-step, is-stop, over, over-le}
+use Rattle.trace.proofs.Turns.{is-over, is-stop, over, over-le}
 use Rattle.trace.proofs.Surveys.{surveyFrom, survey-start, survey-end, survey-halt, survey-next, count-le}
 use Rattle.trace.proofs.groups.survey.Statement.{statement}
 use Rattle.trace.proofs.groups.survey.Tie as tie
@@ -31,24 +31,24 @@ loop-holds c =
 
 count-row-requires : tie.Need-count-row-requires Inv-loop μ-loop
 count-row-requires c κs =
-    let o = over _ _ _ _ _ (is-step (c .before .before .before .pass .ensures) (c .before .stepped2 .given .1)) in
+    let o = over _ _ _ _ _ (is-over (c .before .before .before .pass .ensures) (c .before .crossing2 .given .1)) in
     let g = row-at _ _ _ _ (o .there) in
     record { few = omega arith; ends = omega (arith, g .at-place, over-le _ _ _ _ _ o); most = omega (arith, g .at-place, g .at-fits) }
 
 count-row-requires-2 : tie.Need-count-row-requires-2 Inv-loop μ-loop
 count-row-requires-2 c κs =
-    let o = over _ _ _ _ _ (is-step (c .before .before .before .before .pass .ensures) (c .before .before .stepped2 .given .1)) in
+    let o = over _ _ _ _ _ (is-over (c .before .before .before .before .pass .ensures) (c .before .before .crossing2 .given .1)) in
     let g = row-at _ _ _ _ (o .there) in
     record { few = omega arith; ends = omega (arith, g .at-place, over-le _ _ _ _ _ o); most = omega (arith, g .at-place, g .at-fits) }
 
 returns : tie.Need-returns Inv-loop μ-loop
 returns c =
-    c .halted .ensures ∙ sym (c .before .before .before .before .before .before .loop .inv .0 ∙ survey-halt _ _ _ _ _ _ (c .before .before .before .before .before .loop-test .taken) _ _ (is-stop (c .before .before .before .before .pass .ensures) (c .before .before .stepped .given .1)))
+    c .halted .ensures ∙ sym (c .before .before .before .before .before .before .loop .inv .0 ∙ survey-halt _ _ _ _ _ _ (c .before .before .before .before .before .loop-test .taken) _ _ (is-stop (c .before .before .before .before .pass .ensures) (c .before .before .crossing .given .1)))
 
 loop-again : tie.Need-loop-again Inv-loop μ-loop
 loop-again c =
     let l = c .before .before .before .before .before .before .before in
-    let o = over _ _ _ _ _ (is-step (c .before .before .before .before .before .pass .ensures) (c .before .before .before .stepped2 .given .1)) in
+    let o = over _ _ _ _ _ (is-over (c .before .before .before .before .before .pass .ensures) (c .before .before .before .crossing2 .given .1)) in
     let e = c .before .count-row .ensures in
     let f = c .count-row2 .ensures in
     let due = c .before .before .before .before .before .before .loop-test .taken in

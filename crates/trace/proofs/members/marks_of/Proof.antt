@@ -9,9 +9,9 @@ use denote.Ref.{now}
 use lib.ListN.{length, getD}
 use Rattle.meaning.specs.Walk.{walk}
 use Rattle.meaning.specs.Message.{partOf}
-use Rattle.trace.specs.Passing.{passed, isSound}
+use Rattle.trace.specs.Passing.{crossed, isSound}
 use Rattle.trace.specs.Marks.{markFrom}
-use Rattle.attributes.proofs.Lists.{zeros-at}
+use Rattle.meaning.proofs.Lists.{zeros-at}
 use Rattle.trace.proofs.Skipping.{known-room, behind-over, sound-first, sound-next}
 use Rattle.trace.proofs.Marking.{mark-end, mark-read}
 use Rattle.trace.proofs.members.marks_of.Statement.{statement}
@@ -32,7 +32,7 @@ loop-holds c =
     (refl, λ j h. ap (λ (x : ℕ). markFrom (getD (a .sheet) j 0) x (walk (partOf (now (a .msg)) (a .len)) (a .place) 2 (a .count))) (sym (zeros-at 8 j)), c .before .pre .sound)
 
 -- the member is sound, and has 16 bytes or more in the message
-sound : (c : tie.In-loop Inv-loop μ-loop) → isSound (passed (partOf (now (c .before .before .before .args .msg)) (c .before .before .before .args .len)) (c .before .loop .at) 2) ≡ true
+sound : (c : tie.In-loop Inv-loop μ-loop) → isSound (crossed (partOf (now (c .before .before .before .args .msg)) (c .before .before .before .args .len)) (c .before .loop .at) 2) ≡ true
 sound c = sound-first _ _ _ _ (c .loop-test .taken) (c .before .loop .inv .2)
 
 room : (c : tie.In-loop Inv-loop μ-loop) → c .before .loop .at + 16 ≤ c .before .before .before .args .len

@@ -5,7 +5,7 @@ use native.Mathlib.Omega.{arith}
 use borrow.Author.Needs.{needs}
 use lib.ListN.{length, getD, length-set}
 use Rattle.trace.specs.Marks.{noted}
-use Rattle.attributes.proofs.Lists.{Filled, filled-next}
+use Rattle.meaning.proofs.Lists.{Filled, filled-next}
 use Rattle.trace.proofs.members.note_all.Statement.{statement}
 use Rattle.trace.proofs.members.note_all.Tie as tie
 

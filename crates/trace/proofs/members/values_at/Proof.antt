@@ -5,7 +5,7 @@ use native.Mathlib.Omega.{arith}
 use denote.Ref.{now}
 use lib.ListN.{length, getD, length-set}
 use Rattle.meaning.specs.Bytes.{number}
-use Rattle.attributes.proofs.Lists.{Filled, filled-next}
+use Rattle.meaning.proofs.Lists.{Filled, filled-next}
 use Rattle.trace.proofs.Marking.{values-read}
 use Rattle.trace.proofs.members.values_at.Statement.{statement}
 use Rattle.trace.proofs.members.values_at.Tie as tie

@@ -4,10 +4,10 @@ use Prim.Native.Nat.{_*_, _-_, _≤_}
 use native.Mathlib.Omega.{arith}
 use lib.ListN.{length, getD, take, drop}
 use lib.Seq.{length-take-le, getD-take}
-use Rattle.compose.specs.Headers.{fieldsOf, startsWith}
-use Rattle.compose.proofs.Headers.{nine, starts-none, starts-equal, starts-unequal}
-use Rattle.compose.proofs.header.has_header.Statement.{statement}
-use Rattle.compose.proofs.header.has_header.Tie as tie
+use Rattle.header.specs.Headers.{fieldsOf, startsWith}
+use Rattle.header.proofs.Headers.{nine, starts-none, starts-equal, starts-unequal}
+use Rattle.header.proofs.has_header.Statement.{statement}
+use Rattle.header.proofs.has_header.Tie as tie
 
 abbrev Inv-loop : tie.InvT-loop
 Inv-loop msg kind i₀ i = (i ≤ 8) × (startsWith msg 0 (take 8 (fieldsOf kind)) ≡ startsWith msg (i * 4) (drop i (take 8 (fieldsOf kind))))

@@ -7,10 +7,10 @@ use lib.ListN.{length, take}
 use lib.Seq.{take-all}
 use Rattle.meaning.specs.Bytes.{words, splice}
 use Rattle.meaning.proofs.Splices.{splice-none}
-use Rattle.compose.specs.Headers.{fieldsOf}
-use Rattle.compose.proofs.Headers.{nine, write-next}
-use Rattle.compose.proofs.header.put_header.Statement.{statement}
-use Rattle.compose.proofs.header.put_header.Tie as tie
+use Rattle.header.specs.Headers.{fieldsOf}
+use Rattle.header.proofs.Headers.{nine, write-next}
+use Rattle.header.proofs.put_header.Statement.{statement}
+use Rattle.header.proofs.put_header.Tie as tie
 
 abbrev Inv-loop : tie.InvT-loop
 Inv-loop buf₀ kind i₀ buf i = (i ≤ 9) × (length buf ≡ length buf₀) × (buf ≡ splice buf₀ 0 (words (take i (fieldsOf kind))))

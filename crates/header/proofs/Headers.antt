@@ -12,10 +12,10 @@ use borrow.Author.Tests.{eq-eqb, ne-eqb}
 use Rattle.meaning.specs.Bytes.{number, bytes4, words, splice}
 use Rattle.meaning.specs.Compose.{headerFields, traceHeaderFields, reportHeaderFields}
 use Rattle.meaning.proofs.Splices.{splice-number}
-use Rattle.compose.specs.declared.header.Kind.{Kind}
-use Rattle.compose.specs.declared.header.Kind.the-variants.{Trace, Report}
-use Rattle.compose.specs.Headers.{offsetOf, fieldsOf, startsWith}
-use Rattle.attributes.proofs.Lists.{rest-none, rest-next}
+use Rattle.header.specs.declared.Kind.{Kind}
+use Rattle.header.specs.declared.Kind.the-variants.{Trace, Report}
+use Rattle.header.specs.Headers.{offsetOf, fieldsOf, startsWith}
+use Rattle.meaning.proofs.Lists.{rest-none, rest-next}
 
 -- THE TABLE'S RULE: from each row's start on it has the nine fields of that header
 abbrev pub Rule : List ℕ → Type 0

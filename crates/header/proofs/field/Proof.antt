@@ -6,10 +6,10 @@ use native.Mathlib.Omega.{arith}
 use lib.ListN.{getD}
 use borrow.Author.Needs.{needs}
 use Rattle.meaning.specs.Compose.{headerFields, traceHeaderFields, reportHeaderFields}
-use Rattle.compose.specs.declared.header.Kind.the-variants.{Trace, Report}
-use Rattle.compose.proofs.Headers.{Rule, entry}
-use Rattle.compose.proofs.header.field.Statement.{statement}
-use Rattle.compose.proofs.header.field.Tie as tie
+use Rattle.header.specs.declared.Kind.the-variants.{Trace, Report}
+use Rattle.header.proofs.Headers.{Rule, entry}
+use Rattle.header.proofs.field.Statement.{statement}
+use Rattle.header.proofs.field.Tie as tie
 
 table : List ℕ
 table = 10 ∷ 36 ∷ 3 ∷ 75 ∷ 1 ∷ 1 ∷ 0 ∷ 0 ∷ 1 ∷ 12 ∷ 36 ∷ 3 ∷ 69 ∷ 1 ∷ 1 ∷ 0 ∷ 0 ∷ 1 ∷ []

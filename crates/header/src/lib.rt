@@ -5,7 +5,7 @@ ghost use mathlib.Core.Path.{_≡_};
 ghost use Prim.Native.Nat.{_≤_, _<_};
 ghost use lib.ListN.{length, getD, take};
 ghost use Rattle.meaning.specs.Bytes.{words, splice};
-ghost use Rattle.compose.specs.Headers.{fieldsOf, startsWith};
+ghost use Rattle.header.specs.Headers.{fieldsOf, startsWith};
 
 // Which message a header starts.
 pub enum Kind {

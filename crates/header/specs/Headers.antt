@@ -5,8 +5,8 @@ use mathlib.Core.List.{List, [], _∷_}
 use lib.Dec.{eqb}
 use Rattle.meaning.specs.Bytes.{number}
 use Rattle.meaning.specs.Compose.{traceHeaderFields, reportHeaderFields}
-use Rattle.compose.specs.declared.header.Kind.{Kind}
-use Rattle.compose.specs.declared.header.Kind.the-variants.{Trace, Report}
+use Rattle.header.specs.declared.Kind.{Kind}
+use Rattle.header.specs.declared.Kind.the-variants.{Trace, Report}
 
 -- where the fields of a header start in the table
 abbrev pub offsetOf : Kind → ℕ
