@@ -3,4 +3,4 @@ mod Lengths
 mod Soundness
 pub mod Found
 pub mod Extents
-mod Plain
+mod ByType

@@ -21,8 +21,8 @@ pub const MQCFT_GROUP: u32 = 20;
 // The type of an integer parameter.
 pub const MQCFT_INTEGER: u32 = 3;
 
-// The length of an integer, and of a group without its members.
-const PLAIN: u32 = 16;
+// The fixed part of an integer, and of a group: all that they have.
+const FIXED: u32 = 16;
 
 // No group is deeper.
 const MOST_DEPTH: u32 = 8;
@@ -126,10 +126,10 @@ pub fn structure_at(s: &[u8], end: usize, place: usize, depth: u32) -> Found
 }
 
 // A group keeps the table's rule with its length and its count.
-fn is_group(size: u32, first: u32) -> bool
+fn group_kept(size: u32, first: u32) -> bool
     ensures { λ r. ⌜ r ≡ (eqb size 16 && ltb first twoTo31) ⌝ }
 {
-    (size == PLAIN) & (first < TWO_TO_31)
+    (size == FIXED) & (first < TWO_TO_31)
 }
 
 // The same without the row, for those who only pass over it. A walk asks this of each structure that it meets, so it is kept
@@ -145,18 +145,18 @@ pub fn extent_at(s: &[u8], end: usize, place: usize, depth: u32) -> Extent
     let kind = number_at(s, place);
     let size = number_at(s, place + 4);
     if kind == MQCFT_INTEGER {
-        if size == PLAIN {
-            return Extent::Sound(PLAIN, 0);
+        if size == FIXED {
+            return Extent::Sound(FIXED, 0);
         }
         return Extent::Refused(Refusal::BadStructure(place));
     }
     let first = number_at(s, place + 12);
     if kind == MQCFT_GROUP {
-        if is_group(size, first) {
+        if group_kept(size, first) {
             if MOST_DEPTH < depth {
                 return Extent::Refused(Refusal::TooDeep(place));
             }
-            return Extent::Sound(PLAIN, first);
+            return Extent::Sound(FIXED, first);
         }
         return Extent::Refused(Refusal::BadStructure(place));
     }

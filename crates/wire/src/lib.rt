@@ -1,10 +1,12 @@
-// Numbers in bytes, and bytes over bytes: all reading and writing of a buffer goes through these three functions.
+// Numbers in bytes, and bytes over bytes. Every number of a message is read by `number_at` and written by `put_number`, and every
+// run of bytes is written by `copy` and `copy_to`. (Single bytes are read by the search for a name's end, and written by the
+// listing's text.)
 ghost use mathlib.Core.Path.{_≡_};
 ghost use mathlib.Core.List.{_∷_, []};
 ghost use Prim.Native.Nat.{_+_, _≤_, _<_, _/_, _%_};
 ghost use lib.ListN.{length, getD};
 ghost use Rattle.meaning.specs.Bytes.{number, bytes4, splice};
-ghost use Rattle.wire.specs.Digits.{Digits};
+ghost use Rattle.wire.specs.LeastFirst.{LeastFirst};
 
 fn wide(x: u8) -> u32
     ensures { λ r. ⌜ (r ≡ x) × (r < 256) ⌝ }
@@ -12,18 +14,19 @@ fn wide(x: u8) -> u32
     x as u32
 }
 
-// The four bytes at `at` as a number, least significant first. The compiler makes one read of a whole word of this sum, and
-// not of the same sum with the most significant byte first.
+// The four bytes at `at` as a number, least significant first. The compiler makes one read of a word of this sum before it
+// decides what is compiled into what; of the same sum with the most significant byte first it makes four until then, and what
+// reads many numbers would no longer be compiled into its callers.
 fn four_at(s: &[u8], at: usize) -> u32
     requires { ⌜ at + 4 ≤ length (now s) ⌝ }
-    ensures { λ r. ⌜ Digits r (getD (now (s .entry)) at 0) (getD (now (s .entry)) (at + 1) 0) (getD (now (s .entry)) (at + 2) 0) (getD (now (s .entry)) (at + 3) 0) ⌝ }
+    ensures { λ r. ⌜ LeastFirst r (getD (now (s .entry)) at 0) (getD (now (s .entry)) (at + 1) 0) (getD (now (s .entry)) (at + 2) 0) (getD (now (s .entry)) (at + 3) 0) ⌝ }
 {
     wide(s[at]) + wide(s[at + 1]) * 256 + wide(s[at + 2]) * 65536 + wide(s[at + 3]) * 16777216
 }
 
-// The number whose four bytes are those of `x` the other way round: one instruction, once it is compiled.
+// The number whose four bytes are those of `x` the other way round. It compiles to one instruction.
 fn turned(x: u32) -> u32
-    ensures { λ r. ⌜ Digits r (x / 16777216 % 256) (x / 65536 % 256) (x / 256 % 256) (x % 256) ⌝ }
+    ensures { λ r. ⌜ LeastFirst r (x / 16777216 % 256) (x / 65536 % 256) (x / 256 % 256) (x % 256) ⌝ }
 {
     x % 256 * 16777216 + x / 256 % 256 * 65536 + x / 65536 % 256 * 256 + x / 16777216
 }

@@ -7,7 +7,7 @@ use Rattle.meaning.specs.Message.{partOf}
 use Rattle.meaning.proofs.Structures.{structure-short}
 use Rattle.structure.specs.Rows.{reachOf}
 use Rattle.structure.proofs.Soundness.{few, enough}
-use Rattle.structure.proofs.Plain.{integer-in, integer-out, group-in, group-deep, group-out, other-in, other-out}
+use Rattle.structure.proofs.ByType.{integer-in, integer-out, group-in, group-deep, group-out, other-in, other-out}
 use Rattle.structure.proofs.structure.extent_at.Statement.{statement}
 use Rattle.structure.proofs.structure.extent_at.Tie as tie
 
@@ -36,7 +36,7 @@ returns-4 c =
     let r = q .before .before in
     let a = r .before .before .before .before .before .args in
     group-deep (now (a .s)) (a .end) (a .place) (a .depth) _ _ (enough (a .end) (a .place) (r .before .before .before .too-short .ensures) (r .before .before .if1 .left)) (r .before .number-at .ensures) (r .number-at2 .ensures) _ (q .number-at3 .ensures) (c .before .before .before .if4 .taken)
-    (sym (c .before .before .is-group .ensures) ∙ c .before .if5 .taken) (c .if6 .taken)
+    (sym (c .before .before .group-kept .ensures) ∙ c .before .if5 .taken) (c .if6 .taken)
 
 returns-5 : tie.Need-returns-5
 returns-5 c =
@@ -44,7 +44,7 @@ returns-5 c =
     let r = q .before .before in
     let a = r .before .before .before .before .before .args in
     group-in (now (a .s)) (a .end) (a .place) (a .depth) _ _ (enough (a .end) (a .place) (r .before .before .before .too-short .ensures) (r .before .before .if1 .left)) (r .before .number-at .ensures) (r .number-at2 .ensures) _ (q .number-at3 .ensures) (c .before .before .before .if4 .taken)
-    (sym (c .before .before .is-group .ensures) ∙ c .before .if5 .taken) (c .if6 .left)
+    (sym (c .before .before .group-kept .ensures) ∙ c .before .if5 .taken) (c .if6 .left)
 
 returns-6 : tie.Need-returns-6
 returns-6 c =
@@ -52,7 +52,7 @@ returns-6 c =
     let r = q .before .before in
     let a = r .before .before .before .before .before .args in
     group-out (now (a .s)) (a .end) (a .place) (a .depth) _ _ (enough (a .end) (a .place) (r .before .before .before .too-short .ensures) (r .before .before .if1 .left)) (r .before .number-at .ensures) (r .number-at2 .ensures) _ (q .number-at3 .ensures) (c .before .before .if4 .taken)
-    (sym (c .before .is-group .ensures) ∙ c .if5 .left)
+    (sym (c .before .group-kept .ensures) ∙ c .if5 .left)
 
 -- any other structure
 returns-7 : tie.Need-returns-7
