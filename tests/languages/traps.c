@@ -88,8 +88,8 @@ static void feedbacks(void)
 {
     expect(GW_MQFB_MAX_ACTIVITIES == 282 && gw_feedback(GW_REFUSED_MAX_ACTIVITIES) == 282, "the limit's feedback");
     expect(GW_MQFB_NOT_FORWARDED == 283 && gw_feedback(GW_REFUSED_NOT_FORWARDED) == 283, "not forwarded");
-    expect(GW_MQFB_UNSUPPORTED_FORWARDING == 285 && gw_feedback(GW_REFUSED_UNSUPPORTED_FORWARDING) == 285, "forwarding unsupported");
-    expect(GW_MQFB_UNSUPPORTED_DELIVERY == 286 && gw_feedback(GW_REFUSED_UNSUPPORTED_DELIVERY) == 286, "delivery unsupported");
+    expect(GW_MQFB_UNSUPPORTED_FORWARDING == 285 && gw_feedback(GW_REFUSED_UNSUPPORTED_FORWARDING) == 285, "forwarding");
+    expect(GW_MQFB_UNSUPPORTED_DELIVERY == 286 && gw_feedback(GW_REFUSED_UNSUPPORTED_DELIVERY) == 286, "delivery");
     expect(gw_feedback(GW_ACCEPTED) == 0 && gw_feedback(GW_REFUSED_NO_ROOM) == 0 && gw_feedback(282) == 0, "others have none");
 }
 

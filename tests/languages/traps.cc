@@ -111,7 +111,8 @@ void options()
     expect(plain.bytes() == noisy.bytes(), "an activity looks at three bits only");
     for (uint32_t alone : std::vector<uint32_t>{0, GW_OPTION_REPORTS_ASKED, GW_OPTION_ACTIVITY_RECORDING}) {
         Trace silent(GW_ATTR_MAX_ACTIVITIES, 0);
-        expect(silent.activity(~three | alone, GW_LEVEL_LOW).counter == GW_ATTR_UNRECORDED_ACTIVITIES, "no other bit makes up for it");
+        uint64_t counter = silent.activity(~three | alone, GW_LEVEL_LOW).counter;
+        expect(counter == GW_ATTR_UNRECORDED_ACTIVITIES, "no other bit makes up for it");
     }
     Trace supported(GW_ATTR_FORWARD, GW_MQROUTE_FORWARD_IF_SUPPORTED);
     expect(gw_value(supported.forward(GW_OPTION_REMOTE_SUPPORTS)) == GW_DECIDED_FORWARD, "forwarding looks at its bit");

@@ -139,10 +139,11 @@ def main():
         return
     same = next(i for i, pair in enumerate(zip(theirs + [None], structures + [None])) if pair[0] != pair[1])
     if theirs != as_the_dissector_goes(structures):
-        raise SystemExit(f"{name}: differs at structure {same}:\n  ours   {structures[same:same + 1]}\n  theirs {theirs[same:same + 1]}")
+        raise SystemExit(f"{name}: differs at structure {same}:\n  ours   {structures[same:same + 1]}\n"
+                         f"  theirs {theirs[same:same + 1]}")
     shown = {structure.place for structure in theirs}
-    print(f"{name}: agrees up to byte {structures[same].place}, {same} of {len(structures)} structures; there the dissector goes back "
-          f"to byte {theirs[same].place} and never shows {sum(s.place not in shown for s in structures)}")
+    print(f"{name}: agrees up to byte {structures[same].place}, {same} of {len(structures)} structures; there the dissector "
+          f"goes back to byte {theirs[same].place} and never shows {sum(s.place not in shown for s in structures)}")
 
 
 main()
