@@ -1,0 +1,159 @@
+// Tries the header's traps from C++: traps VERSION, the version that pkg-config says. See run.
+#include <gwirandol.h>
+
+#include <array>
+#include <iostream>
+#include <map>
+#include <optional>
+#include <set>
+#include <string>
+#include <vector>
+
+namespace {
+
+int failures = 0;
+
+void expect(bool holds, const std::string &what)
+{
+    if (!holds) {
+        std::cout << "not so from C++: " << what << '\n';
+        failures++;
+    }
+}
+
+using Eight = std::array<uint32_t, GW_ATTRIBUTES>;
+
+constexpr Eight sheet = {GW_IBM_SHEET};
+constexpr uint32_t three = GW_OPTION_REPORTS_ASKED | GW_OPTION_ACTIVITY_RECORDING | GW_OPTION_TRACE_ROUTE_MESSAGING;
+
+// An Activity group (8005) of one string, 3024, "C++" and a blank.
+const std::vector<uint8_t> group = {0, 0, 0, 20, 0, 0,    0,    16, 0, 0, 0x1f, 0x45, 0, 0, 0, 1,   0,   0,   0,   4,
+                                    0, 0, 0, 24, 0, 0, 0x0b, 0xd0, 0, 0, 0,    0,    0, 0, 0, 4, 'C', '+', '+', ' '};
+
+// A trace in a buffer that it can grow in.
+class Trace {
+public:
+    // sound but for the one value
+    Trace(gw_attribute attribute, uint32_t value)
+    {
+        Eight values{};
+        values[GW_ATTR_DETAIL] = GW_LEVEL_LOW;
+        values[GW_ATTR_ACCUMULATE] = GW_MQROUTE_ACCUMULATE_IN_MSG;
+        values[GW_ATTR_FORWARD] = GW_MQROUTE_FORWARD_ALL;
+        values[GW_ATTR_DELIVER] = GW_MQROUTE_DELIVER_NO;
+        values[attribute] = value;
+        gw_answer answer = gw_compose(sheet.data(), values.data(), buffer.data(), buffer.size());
+        length = gw_number(answer) == GW_ACCEPTED ? gw_value(answer) : 0;
+    }
+
+    std::optional<Eight> read() const
+    {
+        Eight values{};
+        gw_answer answer = gw_read(buffer.data(), buffer.size(), length, sheet.data(), values.data());
+        return gw_number(answer) == GW_ACCEPTED ? std::optional(values) : std::nullopt;
+    }
+
+    gw_done activity(uint32_t options, uint32_t level)
+    {
+        gw_done done = {99, 99, 99, 99};
+        gw_answer answer = gw_activity(buffer.data(), buffer.size(), length, sheet.data(), options, level, group.data(),
+                                       group.size(), report.data(), report.size(), &done);
+        if (gw_number(answer) == GW_ACCEPTED) {
+            length = gw_value(answer);
+        }
+        return done;
+    }
+
+    gw_answer forward(uint32_t options) const
+    {
+        return gw_forward(buffer.data(), buffer.size(), length, sheet.data(), options);
+    }
+
+    std::vector<uint8_t> bytes() const
+    {
+        return {buffer.begin(), buffer.begin() + static_cast<std::ptrdiff_t>(length)};
+    }
+
+private:
+    std::vector<uint8_t> buffer = std::vector<uint8_t>(1000);
+    std::vector<uint8_t> report = std::vector<uint8_t>(1000);
+    size_t length = 0;
+};
+
+void positions()
+{
+    auto medium = Trace(GW_ATTR_DETAIL, GW_LEVEL_MEDIUM).read();
+    expect(medium && (*medium)[GW_ATTR_DETAIL] == 8, "a medium trace is composed");
+    auto limited = Trace(GW_ATTR_MAX_ACTIVITIES, 7).read();
+    expect(limited && (*limited)[4] == 7, "the limit has its position");
+    auto supported = Trace(GW_ATTR_FORWARD, GW_MQROUTE_FORWARD_IF_SUPPORTED).read();
+    expect(supported && (*supported)[6] == 0x200, "forwarding has its position");
+}
+
+void levels()
+{
+    struct Case {
+        uint32_t detail, level, counter;
+    };
+    for (auto [detail, level, counter] : {Case{8, 8, GW_ATTR_RECORDED_ACTIVITIES}, Case{32, 8, GW_ATTR_UNRECORDED_ACTIVITIES},
+                                          Case{8, 2, GW_ATTR_UNRECORDED_ACTIVITIES}, Case{32, 32, GW_ATTR_RECORDED_ACTIVITIES}}) {
+        expect(Trace(GW_ATTR_DETAIL, detail).activity(three, level).counter == counter,
+               "detail " + std::to_string(detail) + ", level " + std::to_string(level));
+    }
+}
+
+void options()
+{
+    Trace plain(GW_ATTR_MAX_ACTIVITIES, 0), noisy(GW_ATTR_MAX_ACTIVITIES, 0);
+    gw_done done = plain.activity(three, GW_LEVEL_LOW);
+    expect(done.appended == 1 && done.report_length == 36 + group.size(), "three bits append and report");
+    noisy.activity(0xFFFFFFFF, GW_LEVEL_LOW);
+    expect(plain.bytes() == noisy.bytes(), "an activity looks at three bits only");
+    for (uint32_t alone : std::vector<uint32_t>{0, GW_OPTION_REPORTS_ASKED, GW_OPTION_ACTIVITY_RECORDING}) {
+        Trace silent(GW_ATTR_MAX_ACTIVITIES, 0);
+        uint64_t counter = silent.activity(~three | alone, GW_LEVEL_LOW).counter;
+        expect(counter == GW_ATTR_UNRECORDED_ACTIVITIES, "no other bit makes up for it");
+    }
+    Trace supported(GW_ATTR_FORWARD, GW_MQROUTE_FORWARD_IF_SUPPORTED);
+    expect(gw_value(supported.forward(GW_OPTION_REMOTE_SUPPORTS)) == GW_DECIDED_FORWARD, "forwarding looks at its bit");
+    expect(gw_number(supported.forward(~uint32_t{GW_OPTION_REMOTE_SUPPORTS})) == GW_REFUSED_NOT_FORWARDED, "and at no other");
+}
+
+void feedbacks()
+{
+    static_assert(GW_MQFB_MAX_ACTIVITIES == 282 && GW_MQFB_NOT_FORWARDED == 283 && GW_MQFB_UNSUPPORTED_FORWARDING == 285
+                  && GW_MQFB_UNSUPPORTED_DELIVERY == 286);
+    const std::map<uint32_t, uint32_t> codes = {{GW_REFUSED_MAX_ACTIVITIES, GW_MQFB_MAX_ACTIVITIES},
+                                                {GW_REFUSED_NOT_FORWARDED, GW_MQFB_NOT_FORWARDED},
+                                                {GW_REFUSED_UNSUPPORTED_FORWARDING, GW_MQFB_UNSUPPORTED_FORWARDING},
+                                                {GW_REFUSED_UNSUPPORTED_DELIVERY, GW_MQFB_UNSUPPORTED_DELIVERY}};
+    for (uint32_t number = 0; number < 40; number++) {
+        auto code = codes.find(number);
+        expect(gw_feedback(number) == (code == codes.end() ? 0 : code->second), "the feedback of " + std::to_string(number));
+    }
+}
+
+void words()
+{
+    expect(std::string(gw_in_words(GW_ACCEPTED).text) == "accepted", "0 is accepted");
+    std::set<std::string> all;
+    for (uint32_t number = 0; number <= 18; number++) {
+        std::array<char, GW_WORDS_BYTES> text{};
+        all.emplace(text.data(), gw_words(number, text.data()));
+    }
+    expect(all.size() == 19 && all.count("no refusal has this number") == 1, "each refusal has words of its own");
+}
+
+} // namespace
+
+int main(int argc, char **argv)
+{
+    positions();
+    levels();
+    options();
+    feedbacks();
+    words();
+    expect(gw_version() == GW_VERSION, "library and header have one version");
+    expect(argc > 1 && std::string(argv[1]) == GW_VERSION_TEXT, "and pkg-config has it");
+    return failures != 0;
+}
