@@ -37,7 +37,7 @@ static void compose(void)
 static void nothing(void) {}
 static void check(void) { gw_check(message, sizeof message, length); }
 static void list(void) { gw_list(message, sizeof message, length, text); }
-static void forward(void) { gw_forward(message, sizeof message, length, sheet, true); }
+static void forward(void) { gw_forward(message, sizeof message, length, sheet, GW_OPTION_REMOTE_SUPPORTS); }
 static void arrive(void) { gw_arrive(message, sizeof message, length, sheet); }
 static void composed(void) { gw_compose(sheet, values, copy, sizeof copy); }
 
@@ -82,8 +82,9 @@ static void activity(void)
 {
     static gw_done done;
     memcpy(copy, message, sizeof copy);
-    gw_activity(copy, sizeof copy, length, sheet, GW_HIGH, message + 180, group_length, true, true, true, report,
-                sizeof report, &done);
+    uint32_t options = GW_OPTION_REPORTS_ASKED | GW_OPTION_ACTIVITY_RECORDING | GW_OPTION_TRACE_ROUTE_MESSAGING;
+    gw_activity(copy, sizeof copy, length, sheet, options, GW_LEVEL_HIGH, message + 180, group_length, report, sizeof report,
+                &done);
 }
 
 static void *call(void *function)

@@ -1,20 +1,19 @@
 /* Gwirandol: IBM MQ trace-route messages (PCF), checked, listed, composed, read and changed by proved code.
  *
  * Link with libgwirandol.a. No function allocates, keeps state, or reads outside what it is lent, and every function
- * answers for every input: any bytes, any length up to SIZE_MAX, any place, depth, level and sheet. A pointer that comes with
- * a size may be null only if the size is 0; every other pointer must be there. What is lent for writing must not overlap
- * anything else that is lent.
+ * answers for every input: any bytes, any length up to SIZE_MAX, any place, depth, level, options and sheet. Any number of
+ * threads may call any of them at any time, as long as no two use the same memory and one of them writes it. A pointer that
+ * comes with a size may be null only if the size is 0; every other pointer must be there. What is lent for writing must not
+ * overlap anything else that is lent.
  *
- * A message is the first `length` bytes of a lent buffer of `size` bytes.
- *
- * A number answered is a gw_answer: gw_number() of it is 0, or the number of the refusal; gw_value() is what the function
- * gives, or the refusal's place in the message. A refusal changes no byte of anything lent, but for the two results that
- * have a value of their own for it: the counts of gw_tally, all 0, and the part of gw_activity_group, 0 and 0.
+ * A message is the first `length` bytes of a lent buffer of `size` bytes. Numbers in it have four bytes, the highest first.
+ * A place is counted from the message's first byte. Structures at the top level have depth 1, the members of a group one
+ * more than the group.
  *
  * The examples below go on from each other. They are compiled and run by the project's tests, in a function that has
  *
  *     static uint8_t buffer[65536], text[GW_LISTING_BYTES], report[65536];
- *     static const uint32_t sheet[8] = GW_IBM_SHEET;
+ *     static const uint32_t sheet[GW_ATTRIBUTES] = GW_IBM_SHEET;
  *     size_t length;
  *
  * and an Activity group in `group`. */
@@ -29,94 +28,118 @@
 extern "C" {
 #endif
 
+#define GW_VERSION_MAJOR 0
+#define GW_VERSION_MINOR 2
+#define GW_VERSION_PATCH 0
+#define GW_VERSION (GW_VERSION_MAJOR * 1000000 + GW_VERSION_MINOR * 1000 + GW_VERSION_PATCH)
+#define GW_VERSION_TEXT "0.2.0"
+
+/* THE VERSION of the library that is linked, as GW_VERSION is that of this header.
+ *
+ *     if (gw_version() != GW_VERSION)
+ *         printf("header and library do not belong together\n"); */
+uint32_t gw_version(void);
+
+/* ANSWERS. A number answered is a gw_answer: gw_number() of it is 0, or the number of the refusal; gw_value() is what the
+ * function gives, or the refusal's place in the message. A refusal changes no byte of anything lent, but for the two results
+ * that have a value of their own for it: the counts of gw_tally, all 0, and the part of gw_activity_group, 0 and 0. */
 typedef uint64_t gw_answer;
 
 /* 0, or the number of the refusal. */
 static inline uint32_t gw_number(gw_answer answer) { return (uint32_t)(answer % 32); }
 
-/* What was given; of a refusal its place, and of GW_MAX_ACTIVITIES, whose place is 0, whether a reply is owed (1 or 0). */
+/* What was given; of a refusal its place, and of GW_REFUSED_MAX_ACTIVITIES, whose place is 0, whether a reply is owed: 1 if
+ * Accumulate is GW_MQROUTE_ACCUMULATE_AND_REPLY, else 0. */
 static inline uint64_t gw_value(gw_answer answer) { return answer / 32; }
 
-/* The refusals. Their place is 0 unless another is named. */
+/* THE REFUSALS. Their place is 0 unless another is named. */
 enum gw_refusal {
     GW_ACCEPTED = 0,
-    GW_BAD_LENGTH = 1,              /* length above the buffer or 65,536, or below 36 */
-    GW_BAD_HEADER = 2,              /* header not sound */
-    GW_BAD_STRUCTURE = 3,           /* structure: unknown type, length, count, or past the end; its start */
-    GW_TOO_DEEP = 4,                /* group deeper than 8; its start */
-    GW_LEFT_OVER = 5,               /* bytes left over; the first one */
-    GW_NO_TRACE_HEADER = 6,         /* not a trace-route header */
-    GW_NO_TRACE_ROUTE = 7,          /* TraceRoute group absent or repeated */
-    GW_BAD_ATTRIBUTE = 8,           /* attribute absent, repeated, mistyped or out of range */
-    GW_BAD_GROUP = 9,               /* lent Activity group not sound */
-    GW_MAX_ACTIVITIES = 10,         /* MQFB_MAX_ACTIVITIES: the limit is reached */
-    GW_COUNTER_FULL = 11,           /* the counter to raise is 2^31 - 1 */
-    GW_NO_ROOM = 12,                /* new length above the buffer or 65,536 */
-    GW_REPORT_TOO_SHORT = 13,       /* a report is due and its buffer is too short */
-    GW_UNSUPPORTED_DELIVERY = 14,   /* MQFB_UNSUPPORTED_DELIVERY */
-    GW_UNSUPPORTED_FORWARDING = 15, /* MQFB_UNSUPPORTED_FORWARDING */
-    GW_NOT_FORWARDED = 16,          /* MQFB_NOT_FORWARDED */
-    GW_BAD_SHEET = 17               /* sheet: a number out of range or two equal */
+    GW_REFUSED_LENGTH = 1,                  /* length above the buffer or 65,536, or below 36 */
+    GW_REFUSED_HEADER = 2,                  /* StrucLength not 36, Version not 1 to 3, or count of 2^31 or more */
+    GW_REFUSED_STRUCTURE = 3,               /* structure: unknown type, length, count, or past the end; its start */
+    GW_REFUSED_DEPTH = 4,                   /* group deeper than 8; its start */
+    GW_REFUSED_LEFT_OVER = 5,               /* bytes left over; the first one */
+    GW_REFUSED_TRACE_HEADER = 6,            /* not a trace-route header */
+    GW_REFUSED_TRACE_ROUTE = 7,             /* TraceRoute group absent or repeated */
+    GW_REFUSED_ATTRIBUTE = 8,               /* attribute absent, repeated, mistyped or out of range */
+    GW_REFUSED_GROUP = 9,                   /* lent Activity group not sound */
+    GW_REFUSED_MAX_ACTIVITIES = 10,         /* MaxActivities not 0, and the counters' sum plus one above it */
+    GW_REFUSED_COUNTER_FULL = 11,           /* the counter to raise is 2^31 - 1 */
+    GW_REFUSED_NO_ROOM = 12,                /* the message would be longer than the buffer or than 65,536 */
+    GW_REFUSED_REPORT_TOO_SHORT = 13,       /* a report is due and its buffer is too short */
+    GW_REFUSED_UNSUPPORTED_DELIVERY = 14,   /* Deliver has an unknown option, a bit of 0xFFFF0000 */
+    GW_REFUSED_UNSUPPORTED_FORWARDING = 15, /* Forward has an unknown option, a bit of 0xFFFF0000 */
+    GW_REFUSED_NOT_FORWARDED = 16,          /* Forward "if supported", and the remote manager does not */
+    GW_REFUSED_SHEET = 17                   /* sheet: a number out of range or two equal */
 };
 
-/* The refusals that are IBM's feedbacks, by IBM's names. */
-enum gw_feedbacks {
-    GW_MQFB_MAX_ACTIVITIES = GW_MAX_ACTIVITIES,
-    GW_MQFB_UNSUPPORTED_DELIVERY = GW_UNSUPPORTED_DELIVERY,
-    GW_MQFB_UNSUPPORTED_FORWARDING = GW_UNSUPPORTED_FORWARDING,
-    GW_MQFB_NOT_FORWARDED = GW_NOT_FORWARDED
+/* Where several apply, the first in this order is given: 17 where there is a sheet; 1; 2; of 3 and 4 the one at the lowest
+ * place, 3 before 4 at one structure; 5 to 13, by their numbers. 14, 15 and 16 come last, as gw_forward says. By function:
+ *
+ *   gw_compose                    17  8  12
+ *   gw_check, gw_tally, gw_list   1  2  3 and 4  5
+ *   gw_step                       1  3  4
+ *   gw_read                       17  1  2  3 and 4  5  6  7  8
+ *   gw_forward                    gw_read's  14  15  16
+ *   gw_arrive                     gw_read's  14
+ *   gw_discontinuity              gw_read's  10  11
+ *   gw_activity                   gw_read's  9  10  11  12  13
+ *
+ * gw_activity_group and gw_named_string have no number: where gw_read refuses, they find nothing. */
+
+/* A REFUSAL IN WORDS, for people: writes the words of a number and a zero byte behind them to the start of the text, where
+ * they always fit; what is behind stays. Gives how many bytes the words have, the zero byte not counted. 0 is "accepted", and
+ * a number above 17 is "no refusal has this number".
+ *
+ *     char words[GW_WORDS_BYTES];
+ *     gw_words(GW_REFUSED_SHEET, words);
+ *     printf("%s\n", words); */
+#define GW_WORDS_BYTES 128
+size_t gw_words(uint32_t refusal, char text[GW_WORDS_BYTES]);
+
+/* The same as a value, for a line such as
+ *
+ *     printf("%s\n", gw_in_words(GW_ACCEPTED).text); */
+typedef struct gw_text {
+    char text[GW_WORDS_BYTES];
+} gw_text;
+
+static inline gw_text gw_in_words(uint32_t refusal)
+{
+    gw_text words = {{0}};
+    gw_words(refusal, words.text);
+    return words;
+}
+
+/* IBM's feedback codes, for the Feedback field of a message descriptor. */
+enum gw_feedback_code {
+    GW_MQFB_MAX_ACTIVITIES = 282,
+    GW_MQFB_NOT_FORWARDED = 283,
+    GW_MQFB_UNSUPPORTED_FORWARDING = 285,
+    GW_MQFB_UNSUPPORTED_DELIVERY = 286
 };
 
-/* A refusal in words, for people. */
-static inline const char *gw_in_words(uint32_t number)
-{
-    switch (number) {
-    case GW_BAD_LENGTH: return "fewer than 36 bytes, or more than 65,536 or than the buffer has";
-    case GW_BAD_HEADER: return "the header is not sound";
-    case GW_BAD_STRUCTURE: return "a structure is not sound: its type, length or count, or it goes past the end";
-    case GW_TOO_DEEP: return "a group is deeper than 8";
-    case GW_LEFT_OVER: return "bytes are left over behind the last structure";
-    case GW_NO_TRACE_HEADER: return "the header is not that of a trace-route message";
-    case GW_NO_TRACE_ROUTE: return "there is no TraceRoute group, or more than one";
-    case GW_BAD_ATTRIBUTE: return "an attribute is missing, there twice, no integer or out of range";
-    case GW_BAD_GROUP: return "the Activity group is not sound";
-    case GW_MAX_ACTIVITIES: return "the limit of activities is reached (MQFB_MAX_ACTIVITIES)";
-    case GW_COUNTER_FULL: return "the counter can't be raised any more";
-    case GW_NO_ROOM: return "there is no room for the group";
-    case GW_REPORT_TOO_SHORT: return "there is no room for the report";
-    case GW_UNSUPPORTED_DELIVERY: return "a delivery option is not supported (MQFB_UNSUPPORTED_DELIVERY)";
-    case GW_UNSUPPORTED_FORWARDING: return "a forwarding option is not supported (MQFB_UNSUPPORTED_FORWARDING)";
-    case GW_NOT_FORWARDED: return "it may not go to this queue manager (MQFB_NOT_FORWARDED)";
-    case GW_BAD_SHEET: return "the sheet of identifiers is not sound";
-    default: return "no refusal of this number is known";
-    }
-}
+/* THE FEEDBACK CODE that goes with a refusal's number: 10, 16, 15 and 14 have one, in the order above; any other gives 0.
+ *
+ *     printf("feedback %u\n", (unsigned)gw_feedback(GW_REFUSED_MAX_ACTIVITIES)); */
+uint32_t gw_feedback(uint32_t refusal);
 
-/* IBM's name of the feedback that goes with a refusal, or a null pointer: only 10 and 14 to 16 have one. */
-static inline const char *gw_feedback(uint32_t number)
-{
-    switch (number) {
-    case GW_MAX_ACTIVITIES: return "MQFB_MAX_ACTIVITIES";
-    case GW_UNSUPPORTED_DELIVERY: return "MQFB_UNSUPPORTED_DELIVERY";
-    case GW_UNSUPPORTED_FORWARDING: return "MQFB_UNSUPPORTED_FORWARDING";
-    case GW_NOT_FORWARDED: return "MQFB_NOT_FORWARDED";
-    default: return 0;
-    }
-}
-
-/* The eight attributes of a trace, as positions in a sheet and in a list of values. */
+/* THE EIGHT ATTRIBUTES of a trace, as positions in a sheet and in a list of values. */
+#define GW_ATTRIBUTES 8
 enum gw_attribute {
-    GW_DETAIL = 0,
-    GW_RECORDED_ACTIVITIES = 1,
-    GW_UNRECORDED_ACTIVITIES = 2,
-    GW_DISCONTINUITY_COUNT = 3,
-    GW_MAX_ACTIVITIES_LIMIT = 4,
-    GW_ACCUMULATE = 5,
-    GW_FORWARD_OPTION = 6,
-    GW_DELIVER_OPTION = 7
+    GW_ATTR_DETAIL = 0,
+    GW_ATTR_RECORDED_ACTIVITIES = 1,
+    GW_ATTR_UNRECORDED_ACTIVITIES = 2,
+    GW_ATTR_DISCONTINUITY_COUNT = 3,
+    GW_ATTR_MAX_ACTIVITIES = 4,
+    GW_ATTR_ACCUMULATE = 5,
+    GW_ATTR_FORWARD = 6,
+    GW_ATTR_DELIVER = 7
 };
 
-/* The values that IBM has names for. Of Forward and of Deliver exactly one bit is set; other bits may be set beside it. */
+/* Their values that IBM has names for. Detail and Accumulate are one of their three. Of Forward's two bits exactly one is
+ * set, and of Deliver's; other bits may be set beside it. The counters and MaxActivities are below 2^31. */
 enum gw_route {
     GW_MQROUTE_DETAIL_LOW = 2,
     GW_MQROUTE_DETAIL_MEDIUM = 8,
@@ -131,14 +154,34 @@ enum gw_route {
     GW_MQROUTE_DELIVER_NO = 0x2000
 };
 
-/* A sheet has the identifiers of the eight attributes: eight different numbers from 1 to 2^31 - 1. These are IBM's. */
+/* THE LEVEL of an activity is a value of Detail: GW_LEVEL_LOW and GW_MQROUTE_DETAIL_LOW are the same number, and so on. */
+enum gw_level {
+    GW_LEVEL_LOW = 2,
+    GW_LEVEL_MEDIUM = 8,
+    GW_LEVEL_HIGH = 32
+};
+
+/* THE OPTIONS of a call are one value, the sum (or |) of those that hold. A function looks at the bits that it names, and
+ * ignores all others, those without a name included. */
+enum gw_option {
+    GW_OPTION_REPORTS_ASKED = 1,         /* the message's descriptor asks for activity reports */
+    GW_OPTION_ACTIVITY_RECORDING = 2,    /* this queue manager does activity recording */
+    GW_OPTION_TRACE_ROUTE_MESSAGING = 4, /* this queue manager does trace-route messaging */
+    GW_OPTION_REMOTE_SUPPORTS = 8        /* the remote queue manager supports trace-route messaging */
+};
+
+/* A SHEET has the identifiers of the eight attributes: eight different numbers from 1 to 2^31 - 1. These are IBM's. */
 #define GW_IBM_SHEET {1234, 1235, 1257, 1237, 1236, 1238, 1259, 1239}
 
 /* COMPOSE: refusals 17, 8, 12. Writes a trace-route message of 180 bytes to the start of the buffer and gives 180; what is
  * behind it stays.
  *
- *     const uint32_t values[8] = {GW_MQROUTE_DETAIL_LOW, 0, 0, 0, 5, GW_MQROUTE_ACCUMULATE_IN_MSG,
- *                                 GW_MQROUTE_FORWARD_ALL, GW_MQROUTE_DELIVER_YES};
+ *     uint32_t values[GW_ATTRIBUTES] = {0};
+ *     values[GW_ATTR_DETAIL] = GW_MQROUTE_DETAIL_LOW;
+ *     values[GW_ATTR_MAX_ACTIVITIES] = 5;
+ *     values[GW_ATTR_ACCUMULATE] = GW_MQROUTE_ACCUMULATE_IN_MSG;
+ *     values[GW_ATTR_FORWARD] = GW_MQROUTE_FORWARD_ALL;
+ *     values[GW_ATTR_DELIVER] = GW_MQROUTE_DELIVER_YES;
  *     length = gw_value(gw_compose(sheet, values, buffer, sizeof buffer));
  *     printf("%zu bytes\n", length); */
 gw_answer gw_compose(const uint32_t sheet[8], const uint32_t values[8], uint8_t *buffer, size_t size);
@@ -149,7 +192,7 @@ gw_answer gw_compose(const uint32_t sheet[8], const uint32_t values[8], uint8_t 
  *     if (gw_number(checked) == GW_ACCEPTED)
  *         printf("%u structures\n", (unsigned)gw_value(checked));
  *     else
- *         printf("refused at byte %u: %s\n", (unsigned)gw_value(checked), gw_in_words(gw_number(checked))); */
+ *         printf("refused at byte %u: %s\n", (unsigned)gw_value(checked), gw_in_words(gw_number(checked)).text); */
 gw_answer gw_check(const uint8_t *buffer, size_t size, size_t length);
 
 /* TALLY: answers as gw_check does, and counts[k] is the number of structures of type k, nested ones included. All counts
@@ -168,73 +211,51 @@ gw_answer gw_tally(const uint8_t *buffer, size_t size, size_t length, uint32_t c
 #define GW_LISTING_BYTES 131072
 gw_answer gw_list(const uint8_t *buffer, size_t size, size_t length, uint8_t text[GW_LISTING_BYTES]);
 
-/* A structure: depth, place, type, parameter, length; how many structures follow inside it (a group's count, else 0); and
- * the place behind this one structure, which for a group is the place of its first member. */
-typedef struct gw_row {
-    uint64_t depth;
-    uint64_t place;
-    uint64_t type;
-    uint64_t parameter;
-    uint64_t length;
-    uint64_t members;
-    uint64_t next;
-} gw_row;
-
-/* ONE STRUCTURE at any place, taken to have any depth. Gives 0 and the row, or refuses with 1, 3 or 4: the place of 3 and 4
- * is the one asked for, and gw_value() is 0.
- *
- *     gw_row row;
- *     for (size_t place = 36; place < length; place = row.next) {
- *         if (gw_number(gw_step(buffer, sizeof buffer, length, place, 1, &row)) != GW_ACCEPTED)
- *             break;
- *         printf("type %u at byte %u\n", (unsigned)row.type, (unsigned)row.place);
- *     } */
-gw_answer gw_step(const uint8_t *buffer, size_t size, size_t length, size_t place, uint32_t depth, gw_row *row);
-
 /* READ: refusals 17, then 1 to 8. Gives 0 and the eight values; refused, the values stay.
  *
- *     uint32_t read[8];
+ *     uint32_t read[GW_ATTRIBUTES];
  *     if (gw_number(gw_read(buffer, sizeof buffer, length, sheet, read)) == GW_ACCEPTED)
- *         printf("at most %u activities\n", (unsigned)read[GW_MAX_ACTIVITIES_LIMIT]); */
+ *         printf("at most %u activities\n", (unsigned)read[GW_ATTR_MAX_ACTIVITIES]); */
 gw_answer gw_read(const uint8_t *buffer, size_t size, size_t length, const uint32_t sheet[8], uint32_t values[8]);
 
 enum gw_decision {
-    GW_FORWARD = 1,
-    GW_PUT = 2,
-    GW_WITHHOLD = 3
+    GW_DECIDED_FORWARD = 1,
+    GW_DECIDED_PUT = 2,
+    GW_DECIDED_WITHHOLD = 3
 };
 
-/* FORWARDING to a remote queue manager that supports trace-route messaging or does not: refusals as gw_read's, then 14, 15
- * and 16. Gives GW_FORWARD.
+/* FORWARDING to a remote queue manager, which supports trace-route messaging if the options have GW_OPTION_REMOTE_SUPPORTS,
+ * and does not if they have not: refusals as gw_read's, then 14, 15 and 16. Gives GW_DECIDED_FORWARD. In three steps:
  *
- *     gw_answer forward = gw_forward(buffer, sizeof buffer, length, sheet, false);
+ *   1. A manager without support: 14 if Deliver has an unknown option; else Deliver yes forwards the message, and Forward is
+ *   not looked at.
+ *   2. Not decided yet: 15 if Forward has an unknown option.
+ *   3. Not decided yet: forwarded, but for a manager without support where Forward says "if supported", which gives 16.
+ *
+ *     gw_answer forward = gw_forward(buffer, sizeof buffer, length, sheet, GW_OPTION_REMOTE_SUPPORTS);
  *     if (gw_number(forward) == GW_ACCEPTED)
  *         printf("forwarded\n");
- *     else if (gw_feedback(gw_number(forward)))
- *         printf("not forwarded: %s\n", gw_feedback(gw_number(forward))); */
-gw_answer gw_forward(const uint8_t *buffer, size_t size, size_t length, const uint32_t sheet[8], bool supporting);
+ *     else
+ *         printf("not forwarded, with feedback %u\n", (unsigned)gw_feedback(gw_number(forward))); */
+gw_answer gw_forward(const uint8_t *buffer, size_t size, size_t length, const uint32_t sheet[8], uint32_t options);
 
-/* ARRIVAL: refusals as gw_read's, then 14. Gives GW_PUT or GW_WITHHOLD.
+/* ARRIVAL: refusals as gw_read's, then 14 if Deliver has an unknown option. Gives GW_DECIDED_PUT for Deliver yes, and
+ * GW_DECIDED_WITHHOLD for Deliver no.
  *
  *     gw_answer arrival = gw_arrive(buffer, sizeof buffer, length, sheet);
  *     if (gw_number(arrival) == GW_ACCEPTED)
- *         printf("%s\n", gw_value(arrival) == GW_PUT ? "put on the queue" : "withheld"); */
+ *         printf("%s\n", gw_value(arrival) == GW_DECIDED_PUT ? "put on the queue" : "withheld"); */
 gw_answer gw_arrive(const uint8_t *buffer, size_t size, size_t length, const uint32_t sheet[8]);
 
-/* What an accepted event did: which counter rose (GW_RECORDED_ACTIVITIES, GW_UNRECORDED_ACTIVITIES or
- * GW_DISCONTINUITY_COUNT), whether the group was appended (1 or 0), the report's length or 0, the message's length now. */
+/* WHAT AN ACCEPTED EVENT DID: which counter rose (GW_ATTR_RECORDED_ACTIVITIES, GW_ATTR_UNRECORDED_ACTIVITIES or
+ * GW_ATTR_DISCONTINUITY_COUNT), whether the group was appended (1 or 0), the report's length or 0, the message's length
+ * now. */
 typedef struct gw_done {
     uint64_t counter;
     uint64_t appended;
     uint64_t report_length;
     uint64_t message_length;
 } gw_done;
-
-enum gw_level {
-    GW_LOW = 1,
-    GW_MEDIUM = 2,
-    GW_HIGH = 3
-};
 
 /* A DISCONTINUITY: refusals as gw_read's, then 10 and 11. Gives the message's length, which does not change. Accepted,
  * DiscontinuityCount is one higher and no other byte of the buffer changes; refused, buffer and `done` stay.
@@ -244,24 +265,42 @@ enum gw_level {
  *         printf("counter %u rose\n", (unsigned)done.counter); */
 gw_answer gw_discontinuity(uint8_t *buffer, size_t size, size_t length, const uint32_t sheet[8], gw_done *done);
 
-/* AN ACTIVITY: refusals as gw_read's, then 9 to 13. Gives the message's new length. The lent group is one whole Activity
- * group; where it is appended it is written behind the message and the header's count rises. Where a report is due it is
- * written to the start of the report buffer; what is behind it stays. A level that is not one of gw_level's counts as
- * GW_HIGH. Refused, both buffers and `done` stay.
+/* AN ACTIVITY: refusals as gw_read's, then 9 to 13. Gives the message's new length. Refused, both buffers and `done` stay.
  *
- *     gw_answer applied = gw_activity(buffer, sizeof buffer, length, sheet, GW_MEDIUM, group, sizeof group, true, true, true,
+ * The lent group is one whole Activity group (8005) of 16 to 65,500 bytes, sound as at the top level, with nothing behind
+ * it; any other is 9, whether or not it would be used.
+ *
+ * An activity whose level is less than Detail is unrecorded, whatever the options are. Of the nine pairs:
+ *
+ *   level             Detail low       Detail medium    Detail high
+ *   GW_LEVEL_LOW      as below         unrecorded       unrecorded
+ *   GW_LEVEL_MEDIUM   as below         as below         unrecorded
+ *   GW_LEVEL_HIGH     as below         as below         as below
+ *
+ * A level that is none of the three counts as GW_LEVEL_HIGH. Any activity that the table does not call unrecorded is
+ *
+ *   - reported if the options have GW_OPTION_REPORTS_ASKED and GW_OPTION_ACTIVITY_RECORDING: a message, of a header of 36
+ *   bytes and the group, is written to the start of the report buffer, and what is behind it stays;
+ *   - appended if Accumulate is not GW_MQROUTE_ACCUMULATE_NONE and the options have GW_OPTION_TRACE_ROUTE_MESSAGING: the
+ *   group is written behind the message, and the header's ParameterCount rises by one;
+ *   - recorded if it is reported or appended: RecordedActivities rises by one. Else it is unrecorded too.
+ *
+ * Of an unrecorded activity UnrecordedActivities rises by one, and nothing else happens. 12 comes only if the group is to be
+ * appended, 13 only if it is to be reported. No other byte of the buffers changes.
+ *
+ *     uint32_t options = GW_OPTION_REPORTS_ASKED | GW_OPTION_ACTIVITY_RECORDING | GW_OPTION_TRACE_ROUTE_MESSAGING;
+ *     gw_answer applied = gw_activity(buffer, sizeof buffer, length, sheet, options, GW_LEVEL_MEDIUM, group, sizeof group,
  *                                     report, sizeof report, &done);
  *     if (gw_number(applied) == GW_ACCEPTED) {
  *         length = gw_value(applied);
  *         printf("%zu bytes now, a report of %u\n", length, (unsigned)done.report_length);
- *     } else if (gw_number(applied) == GW_MAX_ACTIVITIES && gw_value(applied) == 1) {
+ *     } else if (gw_number(applied) == GW_REFUSED_MAX_ACTIVITIES && gw_value(applied) == 1) {
  *         printf("the limit is reached, and a reply is owed\n");
  *     } */
-gw_answer gw_activity(uint8_t *buffer, size_t size, size_t length, const uint32_t sheet[8], uint32_t level,
-                      const uint8_t *group, size_t group_size, bool reports_asked, bool activity_recording,
-                      bool trace_route_messaging, uint8_t *report, size_t report_size, gw_done *done);
+gw_answer gw_activity(uint8_t *buffer, size_t size, size_t length, const uint32_t sheet[8], uint32_t options, uint32_t level,
+                      const uint8_t *group, size_t group_size, uint8_t *report, size_t report_size, gw_done *done);
 
-/* A part of a message. */
+/* A PART of a message. */
 typedef struct gw_part {
     uint64_t place;
     uint64_t length;
@@ -285,6 +324,40 @@ void gw_activity_group(const uint8_t *buffer, size_t size, size_t length, const 
  *         printf("unknown\n"); */
 bool gw_named_string(const uint8_t *buffer, size_t size, size_t length, const uint32_t sheet[8], size_t n,
                      uint32_t identifier, gw_part *part);
+
+/* A STRUCTURE: depth, place, type, parameter, length; how many structures follow inside it (a group's count, else 0); and
+ * the place behind this one structure, which for a group is the place of its first member. */
+typedef struct gw_row {
+    uint64_t depth;
+    uint64_t place;
+    uint64_t type;
+    uint64_t parameter;
+    uint64_t length;
+    uint64_t members;
+    uint64_t next;
+} gw_row;
+
+/* ONE STRUCTURE at any place, taken to have any depth. Gives 0 and the row, or refuses with 1, 3 or 4: the place of 3 and 4
+ * is the one asked for, and gw_value() is 0. Refused, the row stays. The header is not looked at.
+ *
+ * The depth is the caller's to know. Here `due[d]` is how many members are still to come in the open group of depth d, or of
+ * the message where d is 0. A group with members is gone into; behind the last member its group is left, and with it
+ * perhaps the group around that one. No group is deeper than 8, so that nine numbers suffice.
+ *
+ *     uint64_t due[9] = {UINT64_MAX};
+ *     uint32_t depth = 1;
+ *     gw_row row;
+ *     for (size_t place = 36; place < length; place = row.next) {
+ *         if (gw_number(gw_step(buffer, sizeof buffer, length, place, depth, &row)) != GW_ACCEPTED)
+ *             break;
+ *         printf("%u: type %u at byte %u\n", (unsigned)depth, (unsigned)row.type, (unsigned)row.place);
+ *         due[depth - 1]--;
+ *         if (row.members > 0)
+ *             due[depth++] = row.members;
+ *         while (due[depth - 1] == 0)
+ *             depth--;
+ *     } */
+gw_answer gw_step(const uint8_t *buffer, size_t size, size_t length, size_t place, uint32_t depth, gw_row *row);
 
 #ifdef __cplusplus
 }

@@ -74,11 +74,10 @@ impl Stage {
 
     fn library(&mut self, on: bool) -> (Answer, Done) {
         let event = ffi::Activity {
-            level: 3,
+            // Reports asked for; with activity recording and trace-route messaging.
+            options: if on { 1 | 2 | 4 } else { 1 },
+            level: 32,
             group: &self.group,
-            reports_asked: true,
-            activity_recording: on,
-            trace_route_messaging: on,
         };
         let mut done = nothing();
         let (buffer, report) = (black_box(&mut self.buffer), &mut self.report);

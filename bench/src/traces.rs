@@ -58,9 +58,9 @@ fn compose<'a>() -> Vec<Contender<'a>> {
 /// To a manager that doesn't support trace-route messaging.
 fn forward(message: &[u8]) -> Vec<Contender<'_>> {
     let (length, sheet) = (message.len(), Sheet::new(SHEET));
-    assert!(!ffi::forward(message, length, &SHEET, false).is_refused());
+    assert!(!ffi::forward(message, length, &SHEET, 0).is_refused());
     vec![
-        contender(move || ffi::forward(black_box(message), length, &SHEET, false)),
+        contender(move || ffi::forward(black_box(message), length, &SHEET, 0)),
         contender(move || decoder::forwarding(black_box(message), length, &sheet, false)),
     ]
 }

@@ -9,6 +9,7 @@ use crate::tables::{SPECIAL, VALUES};
 use decoder::generate::{Piece, NAMES};
 use decoder::sample::{IBM, MADE_UP};
 use decoder::{Activity, Event, Level, Settings, Sheet, Values};
+use differential::compare::numbers::Spare;
 use differential::guard::Edge;
 
 /// All arguments.
@@ -25,7 +26,7 @@ pub struct Case {
     pub identifier: u32,
     pub group: Vec<u8>,
     pub report: usize,
-    pub high: u32,
+    pub spare: Spare,
     pub edge: Edge,
     event: u8,
 }
@@ -48,7 +49,7 @@ impl Case {
             n: number(input),
             identifier: identifier(input),
             report: report(input, group.len()),
-            high: [3, 0, 4, 8, 32, 1 << 31, u32::MAX][usize::from(input.choice(Choice::High) % 7)],
+            spare: spare(input),
             edge: [Edge::High, Edge::Low][usize::from(input.choice(Choice::Edge) % 2)],
             event: input.choice(Choice::Event),
             group,
@@ -74,6 +75,20 @@ impl Case {
         } else {
             [activity, Event::Discontinuity, activity]
         }
+    }
+}
+
+/// What stands for the high level, and option bits that mean nothing.
+fn spare(input: &Input) -> Spare {
+    let highs = [32, 0, 1, 3, 16, 1 << 31, u32::MAX];
+    Spare {
+        high: highs[usize::from(input.choice(Choice::High) % 7)],
+        bits: match input.choice(Choice::Event) >> 6 {
+            0 => 0,
+            1 => input.free(),
+            2 => 1 << 31 | 15,
+            _ => u32::MAX,
+        },
     }
 }
 

@@ -1,4 +1,4 @@
-//! All twelve functions on the arguments of one case.
+//! All functions that take a message on the arguments of one case.
 
 use crate::case::Case;
 use differential::compare::bytes::same;
@@ -45,7 +45,7 @@ impl Bench {
         }
         steps(case, buffer, spread);
         spread.answer("read", compare_read(buffer, case.length, &case.sheet));
-        for (entry, answer) in compare_decisions(buffer, case.length, &case.sheet) {
+        for (entry, answer) in compare_decisions(buffer, case.length, &case.sheet, case.spare) {
             spread.answer(entry, answer);
         }
         parts(case, buffer, spread);
@@ -74,7 +74,7 @@ impl Bench {
         let group = &*self.group.lend(&case.group, case.edge);
         let (sheet, mut length) = (&case.sheet, case.length);
         for event in case.events(group) {
-            let result = compare_event(&mut ours, &mut theirs, length, sheet, &event, case.high);
+            let result = compare_event(&mut ours, &mut theirs, length, sheet, &event, case.spare);
             length = result.map_or(length, |applied| applied.message_length);
             self.spread.event(&result);
         }

@@ -19,7 +19,7 @@ pub enum Choice {
     Room,
     /// Size of the report's buffer.
     Report,
-    /// Level, settings and order of the events.
+    /// Level, settings and order of the events, and option bits that mean nothing.
     Event,
     /// The number that stands for the high level.
     High,

@@ -4,6 +4,7 @@ use mathlib.Core.Bool.{cond}
 use mathlib.Core.List.{List, [], _∷_}
 use Prim.Native.Nat.{ℕ, _+_, _*_, _≤_, _<_}
 use native.Mathlib.Omega.{arith}
+use Rattle.meaning.specs.Event.{Level, low, medium, high, rank}
 use Rattle.refusals.specs.Refusals.{numberOf, placeOf, owed}
 use Rattle.refusals.specs.declared.Refusal.{Refusal}
 use Rattle.refusals.specs.declared.Refusal.the-variants.{BadLength, BadHeader, BadStructure, TooDeep, LeftOver, NoTraceHeader, NoTraceRoute, BadAttribute, BadGroup, MaxActivities, CounterFull, NoRoom, ReportTooShort, UnsupportedDelivery, UnsupportedForwarding, NotForwarded, BadSheet}
@@ -17,7 +18,7 @@ use Rattle.verdict.specs.declared.answer.Answer.{Answer as Said}
 use Rattle.verdict.specs.declared.answer.Answer.the-variants as answer
 use Rattle.codes.specs.Codes.{code}
 use Rattle.codes.specs.Decisions.{decisionNumber, decided}
-use Rattle.codes.specs.Events.{Tells}
+use Rattle.codes.specs.Events.{levelIn, Tells}
 
 -- a refusal's number is below 32: number and place can be told from the answer
 pub number-below : (r : Refusal) → numberOf r < 32
@@ -49,6 +50,12 @@ pub decision-code : (n : ℕ) (d : Decided) → n ≡ decisionNumber (decisionOf
 decision-code n Forward e = rw e refl
 decision-code n PutLocally e = rw e refl
 decision-code n Withhold e = rw e refl
+
+-- a level's number is Detail's value for it: each of the three comes back
+pub level-of-rank : (l : Level) → levelIn (rank l) ≡ l
+level-of-rank low = refl
+level-of-rank medium = refl
+level-of-rank high = refl
 
 -- A TOLD ANSWER, by its cases
 pub told-denied : (x : Said) (r : Refusal) → x ≡ answer.Refused r → (before : List ℕ) (n : ℕ)

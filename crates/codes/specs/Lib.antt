@@ -1,3 +1,5 @@
 pub mod Codes
 pub mod Decisions
 pub mod Events
+pub mod Feedbacks
+pub mod Options

@@ -1,5 +1,7 @@
 // What an event did, in numbers, and the level of an activity by its number.
 use crate::code::given;
+use attributes::MQROUTE_DETAIL_LOW;
+use attributes::MQROUTE_DETAIL_MEDIUM;
 use refusals::Refusal;
 use verdict::Answer;
 use verdict::Level;
@@ -46,14 +48,14 @@ pub fn told(found: Answer, done: &mut [u64; 4]) -> u64
     }
 }
 
-// A level by its number in the header; what is neither low nor medium is high.
+// A level by its number, which is Detail's value for it; what is neither low nor medium is high.
 pub fn level_of(level: u32) -> Level
     ensures { λ r. ⌜ levelOf r ≡ levelIn level ⌝ }
 {
-    if level == 1 {
+    if level == MQROUTE_DETAIL_LOW {
         return Level::Low;
     }
-    if level == 2 {
+    if level == MQROUTE_DETAIL_MEDIUM {
         Level::Medium
     } else {
         Level::High

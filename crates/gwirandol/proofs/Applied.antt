@@ -20,6 +20,8 @@ use Rattle.verdict.specs.declared.plan.Settings.{Settings}
 use Rattle.verdict.specs.declared.answer.Answer.{Answer as Said}
 use Rattle.attributes.specs.Terms.{termsOf}
 use Rattle.codes.specs.Events.{levelIn, Brief, Tells}
+use Rattle.codes.specs.Options.{optionsIn}
+use Rattle.codes.specs.declared.options.Options.{Options}
 use Rattle.gwirandol.specs.Events.{activityIn, Applies}
 
 -- THE ANSWER is brief: a message that is appended to stays below the most bytes
@@ -62,10 +64,16 @@ event-brief sheet st e = by (readTrace (termsOf sheet) (st .buf) (st .len)) refl
     by (accepted t) h = go t (sound (termsOf sheet) (st .buf) (st .len) t h .lies .most) (soundEvent e)
     by (refused n p) h = read-refused (termsOf sheet) (st .buf) (st .len) n p h .place
 
--- an activity by its level's number
-pub at-level : (o : Outcome) (sheet : List ℕ) (st : State) (l : Level) (n : ℕ) (g : List ℕ) (asked : Bool) (s : Settings) → levelOf l ≡ levelIn n
-    → o ≡ event (termsOf sheet) st (activityOf l g asked s) → o ≡ event (termsOf sheet) st (activityIn n g asked (s .recording) (s .messaging))
-at-level o sheet st l n g asked s e h = h ∙ ap (λ (k : Rank). event (termsOf sheet) st (activity (record { level = k; group = g; reportsAsked = asked }) (settingsOf s))) e
+-- an activity by its options and its level's number
+abbrev pub settingsIn : Options → Settings
+settingsIn p = record { recording = p .recording; messaging = p .messaging }
+
+pub in-numbers : (o : Outcome) (sheet : List ℕ) (st : State) (p : Options) (l : Level) (g : List ℕ) (options n : ℕ) → p ≡ optionsIn options → levelOf l ≡ levelIn n
+    → o ≡ event (termsOf sheet) st (activityOf l g (p .asked) (settingsIn p)) → o ≡ event (termsOf sheet) st (activityIn options n g)
+in-numbers o sheet st p l g options n e f h =
+    h
+    ∙ ap (λ (k : Rank). event (termsOf sheet) st (activity (record { level = k; group = g; reportsAsked = p .asked }) (settingsOf (settingsIn p)))) f
+    ∙ ap (λ (q : Options). event (termsOf sheet) st (activity (record { level = levelIn n; group = g; reportsAsked = q .asked }) (settingsOf (settingsIn q)))) e
 
 -- WHAT IS TOLD of an event that answers x
 module _ (sheet : List ℕ) (st : State) (e : Event) (x : Said) (len : ℕ) (buf report : List ℕ) (h : outcome x len buf report ≡ event (termsOf sheet) st e) where

@@ -2,4 +2,4 @@ mod Reach
 mod Steps
 mod Readings
 mod Applied
-mod Spans
+mod Naming

@@ -1,16 +1,17 @@
 -- What the functions for events answer, and what they leave.
 use Prim.Native.Nat.{ℕ}
 use mathlib.Core.Path.{_≡_}
-use mathlib.Core.Bool.{Bool}
 use mathlib.Core.List.{List}
 use Rattle.meaning.specs.Event.{Event, activity, State, event}
 use Rattle.attributes.specs.Terms.{termsOf}
 use Rattle.codes.specs.Events.{levelIn, Tells}
+use Rattle.codes.specs.Options.{optionsIn}
 
--- an activity, its level by its number in the header
-abbrev pub activityIn : ℕ → List ℕ → Bool → Bool → Bool → Event
-activityIn level group asked recording messaging =
-    activity (record { level = levelIn level; group = group; reportsAsked = asked }) (record { activityRecording = recording; traceRouteMessaging = messaging })
+-- an activity by its options and its level's number, with the lent group
+abbrev pub activityIn : ℕ → ℕ → List ℕ → Event
+activityIn options level group =
+    activity (record { level = levelIn level; group = group; reportsAsked = optionsIn options .asked })
+    (record { activityRecording = optionsIn options .recording; traceRouteMessaging = optionsIn options .messaging })
 
 -- EVENT: the answer, and what is left in the message buffer and in the report buffer
 pub record Applies (sheet : List ℕ) (st : State) (e : Event) (before : List ℕ) (r : ℕ) (after buf report : List ℕ) : Type 0 where

@@ -1,3 +1,4 @@
 pub mod Structures
 pub mod Traces
 pub mod Events
+pub mod Version

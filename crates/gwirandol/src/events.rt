@@ -1,5 +1,6 @@
 // Events on a trace.
 use codes::level_of;
+use codes::options_of;
 use codes::told;
 use verdict::Settings;
 ghost use mathlib.Core.List.{[]};
@@ -27,22 +28,21 @@ pub extern "C" fn gw_activity(
     buffer: &mut [u8],
     length: usize,
     sheet: &[u32; 8],
+    options: u32,
     level: u32,
     group: &[u8],
-    asked: bool,
-    recording: bool,
-    messaging: bool,
     report: &mut [u8],
     done: &mut [u64; 4],
 ) -> u64
-    ensures { λ r. ⌜ Applies (now (sheet .entry)) (state (now (buffer .entry)) length (now (report .entry))) (activityIn level (now (group .entry)) asked recording messaging) (now (done .entry)) r (now (done .exit)) (now (buffer .exit)) (now (report .exit)) ⌝ }
+    ensures { λ r. ⌜ Applies (now (sheet .entry)) (state (now (buffer .entry)) length (now (report .entry))) (activityIn options level (now (group .entry))) (now (done .entry)) r (now (done .exit)) (now (buffer .exit)) (now (report .exit)) ⌝ }
 {
     let s = *sheet;
+    let said = options_of(options);
     let rank = level_of(level);
     let settings = Settings {
-        recording,
-        messaging,
+        recording: said.recording,
+        messaging: said.messaging,
     };
-    let found = event::activity(buffer, length, s, rank, group, asked, settings, report);
+    let found = event::activity(buffer, length, s, rank, group, said.asked, settings, report);
     told(found, done)
 }

@@ -1,4 +1,6 @@
 // The functions for C: libgwirandol.a, declared in include/gwirandol.h.
 mod events;
+mod refusal;
 mod structures;
 mod traces;
+mod version;

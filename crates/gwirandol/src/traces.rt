@@ -2,12 +2,14 @@
 use activities::Named;
 use codes::composed;
 use codes::judged;
+use codes::options_of;
 use codes::refused;
 use trace::Answer;
 ghost use mathlib.Core.Path.{_≡_};
 ghost use Rattle.codes.specs.Codes.{code};
 ghost use Rattle.attributes.specs.Terms.{termsOf};
 ghost use Rattle.codes.specs.Decisions.{decided};
+ghost use Rattle.codes.specs.Options.{optionsIn};
 ghost use Rattle.gwirandol.specs.Traces.{Composes, Reads, Spans, Names};
 ghost use Rattle.meaning.specs.Activity.{nameOf};
 ghost use Rattle.meaning.specs.Decision.{forwarding, arrival};
@@ -45,18 +47,15 @@ pub extern "C" fn gw_read(
     }
 }
 
-// FORWARDING: 1, or Read's refusals, then 14, 15 and 16.
+// FORWARDING, to a manager that the options say to support trace-route messaging or not: 1, or Read's refusals, then 14, 15
+// and 16.
 #[no_mangle]
-pub extern "C" fn gw_forward(
-    buffer: &[u8],
-    length: usize,
-    sheet: &[u32; 8],
-    supporting: bool,
-) -> u64
-    ensures { λ r. ⌜ r ≡ code (decided (forwarding (termsOf (now (sheet .entry))) (now (buffer .entry)) length supporting)) ⌝ }
+pub extern "C" fn gw_forward(buffer: &[u8], length: usize, sheet: &[u32; 8], options: u32) -> u64
+    ensures { λ r. ⌜ r ≡ code (decided (forwarding (termsOf (now (sheet .entry))) (now (buffer .entry)) length (optionsIn options .supporting))) ⌝ }
 {
     let s = *sheet;
-    judged(routing::forward(buffer, length, s, supporting))
+    let said = options_of(options);
+    judged(routing::forward(buffer, length, s, said.supporting))
 }
 
 // ARRIVAL: 2 to put, 3 to withhold, or Read's refusals, then 14.

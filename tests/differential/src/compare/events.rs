@@ -1,9 +1,10 @@
 //! Events: what each answers and leaves in the buffers.
 
 use super::bytes::same;
+use super::numbers::Spare;
 use super::{expect, fill};
 use crate::ffi::{self, Activity, Answer, Done};
-use decoder::{Applied, Event, EventRefusal, Level, Sheet};
+use decoder::{Applied, Event, EventRefusal, Sheet};
 
 /// What an event may write to.
 pub struct Buffers<'a> {
@@ -11,21 +12,20 @@ pub struct Buffers<'a> {
     pub report: &'a mut [u8],
 }
 
-/// Gives the event to the library. `high` is the number that stands for the
-/// high level: 3, or any that is no level.
+/// Gives the event to the library.
 pub fn give(
     to: &mut Buffers,
     length: usize,
     sheet: &Sheet,
     event: &Event,
-    high: u32,
+    spare: Spare,
 ) -> (Answer, Done) {
     let mut done = fill::DONE;
     let sheet = &sheet.identifiers;
     let answer = match event {
         Event::Discontinuity => ffi::discontinuity(to.message, length, sheet, &mut done),
         Event::Activity(activity) => {
-            let event = arguments(activity, high);
+            let event = arguments(activity, spare);
             ffi::activity(to.message, length, sheet, &event, to.report, &mut done)
         }
     };
@@ -36,16 +36,11 @@ pub fn give(
     (answer, done)
 }
 
-fn arguments<'a>(activity: &decoder::Activity<'a>, high: u32) -> Activity<'a> {
+fn arguments<'a>(activity: &decoder::Activity<'a>, spare: Spare) -> Activity<'a> {
     Activity {
-        level: match activity.level {
-            Level::High => high,
-            level => expect::level(level),
-        },
+        options: spare.options(activity),
+        level: spare.level(activity.level),
         group: activity.group,
-        reports_asked: activity.reports_asked,
-        activity_recording: activity.settings.activity_recording,
-        trace_route_messaging: activity.settings.trace_route_messaging,
     }
 }
 
@@ -56,11 +51,11 @@ pub fn compare_event(
     length: usize,
     sheet: &Sheet,
     event: &Event,
-    high: u32,
+    spare: Spare,
 ) -> Result<Applied, EventRefusal> {
     let before = (ours.message.to_vec(), ours.report.to_vec());
     let result = decoder::apply(theirs.message, length, sheet, event, theirs.report);
-    let (answer, done) = give(ours, length, sheet, event, high);
+    let (answer, done) = give(ours, length, sheet, event, spare);
     let name = match event {
         Event::Discontinuity => "discontinuity",
         Event::Activity(_) => "activity",

@@ -2,7 +2,7 @@
 
 use super::fill;
 use crate::ffi::{Answer, Done, Part, Row};
-use decoder::{Applied, Arrival, Counter, EventRefusal, Level, Refusal};
+use decoder::{Applied, Arrival, Counter, EventRefusal, Refusal};
 
 /// What is given, or number and place.
 pub fn answer(result: Result<u64, Refusal>) -> Answer {
@@ -37,12 +37,12 @@ pub fn row((row, behind): (decoder::Row, usize)) -> Row {
     }
 }
 
-/// `GW_FORWARD`, or a refusal.
+/// `GW_DECIDED_FORWARD`, or a refusal.
 pub fn forwarding(result: Result<(), Refusal>) -> Answer {
     answer(result.map(|()| 1))
 }
 
-/// `GW_PUT` or `GW_WITHHOLD`, or a refusal.
+/// `GW_DECIDED_PUT` or `GW_DECIDED_WITHHOLD`, or a refusal.
 pub fn arrival(result: Result<Arrival, Refusal>) -> Answer {
     answer(result.map(|arrival| match arrival {
         Arrival::Put => 2,
@@ -101,14 +101,5 @@ pub fn done(result: &Result<Applied, EventRefusal>) -> Done {
             message_length: applied.message_length as u64,
         },
         Err(_) => fill::DONE,
-    }
-}
-
-/// `enum gw_level`.
-pub fn level(level: Level) -> u32 {
-    match level {
-        Level::Low => 1,
-        Level::Medium => 2,
-        Level::High => 3,
     }
 }

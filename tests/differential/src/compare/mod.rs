@@ -8,6 +8,7 @@ pub mod bytes;
 pub mod events;
 pub mod expect;
 pub mod fill;
+pub mod numbers;
 pub mod parts;
 pub mod structures;
 pub mod text;

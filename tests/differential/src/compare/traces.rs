@@ -1,6 +1,7 @@
 //! Compose, read, forwarding and arrival.
 
 use super::bytes::same;
+use super::numbers::Spare;
 use super::{expect, fill};
 use crate::ffi::{self, Answer};
 use decoder::{Sheet, Values};
@@ -46,10 +47,16 @@ pub fn compare_decisions(
     buffer: &[u8],
     length: usize,
     sheet: &Sheet,
+    spare: Spare,
 ) -> [(&'static str, Answer); 3] {
     let forward = |supporting, entry| {
         let wanted = decoder::forwarding(buffer, length, sheet, supporting);
-        let answer = ffi::forward(buffer, length, &sheet.identifiers, supporting);
+        let answer = ffi::forward(
+            buffer,
+            length,
+            &sheet.identifiers,
+            spare.forwarding(supporting),
+        );
         assert_eq!(answer, expect::forwarding(wanted), "{entry}");
         (entry, answer)
     };

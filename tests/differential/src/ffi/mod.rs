@@ -8,11 +8,13 @@
 mod answer;
 mod lend;
 mod raw;
+mod refusals;
 mod structures;
 mod traces;
 
 pub use answer::Answer;
 pub use raw::Row;
+pub use refusals::{feedback, version, words, WORDS_BYTES};
 pub use structures::{check, list, step, tally, KINDS, LISTING_BYTES};
 pub use {
     raw::{Done, Part},

@@ -15,6 +15,12 @@ pub struct Row {
 }
 
 extern "C" {
+    pub(super) fn gw_version() -> u32;
+
+    pub(super) fn gw_words(refusal: u32, text: *mut u8) -> usize;
+
+    pub(super) fn gw_feedback(refusal: u32) -> u32;
+
     pub(super) fn gw_check(buffer: *const u8, size: usize, length: usize) -> u64;
 
     pub(super) fn gw_tally(buffer: *const u8, size: usize, length: usize, counts: *mut u32) -> u64;

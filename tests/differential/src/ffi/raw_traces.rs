@@ -39,7 +39,7 @@ extern "C" {
         size: usize,
         length: usize,
         sheet: *const u32,
-        supporting: bool,
+        options: u32,
     ) -> u64;
 
     pub(in super::super) fn gw_arrive(
@@ -83,12 +83,10 @@ extern "C" {
         size: usize,
         length: usize,
         sheet: *const u32,
+        options: u32,
         level: u32,
         group: *const u8,
         group_size: usize,
-        reports_asked: bool,
-        activity_recording: bool,
-        trace_route_messaging: bool,
         report: *mut u8,
         report_size: usize,
         done: *mut Done,

@@ -10,11 +10,9 @@ pub type Eight = [u32; 8];
 /// An activity's arguments.
 #[derive(Clone, Copy, Debug)]
 pub struct Activity<'a> {
+    pub options: u32,
     pub level: u32,
     pub group: &'a [u8],
-    pub reports_asked: bool,
-    pub activity_recording: bool,
-    pub trace_route_messaging: bool,
 }
 
 /// 180, or 17, 8, 12.
@@ -34,10 +32,10 @@ pub fn read(buffer: &[u8], length: usize, sheet: &Eight, values: &mut Eight) -> 
 }
 
 /// Forward, or a refusal.
-pub fn forward(buffer: &[u8], length: usize, sheet: &Eight, supporting: bool) -> Answer {
+pub fn forward(buffer: &[u8], length: usize, sheet: &Eight, options: u32) -> Answer {
     let (from, size, sheet) = (start(buffer), buffer.len(), sheet.as_ptr());
     // SAFETY: pointer and size are one slice; it and the sheet are only read.
-    Answer(unsafe { raw::gw_forward(from, size, length, sheet, supporting) })
+    Answer(unsafe { raw::gw_forward(from, size, length, sheet, options) })
 }
 
 /// Put or withhold, or a refusal.
@@ -98,12 +96,10 @@ pub fn activity(
             size,
             length,
             sheet.as_ptr(),
+            event.options,
             event.level,
             start(event.group),
             event.group.len(),
-            event.reports_asked,
-            event.activity_recording,
-            event.trace_route_messaging,
             start_mut(report),
             report_size,
             done,

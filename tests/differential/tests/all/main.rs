@@ -7,6 +7,7 @@ mod fixed;
 #[cfg(target_os = "linux")]
 mod guarded;
 mod header;
+mod refusals;
 mod run;
 mod structures;
 mod traces;

@@ -1,6 +1,6 @@
 -- `traces::gw_named_string` meets its contract.
 use borrow.Author.Needs.{needs}
-use Rattle.gwirandol.proofs.Spans.{is-substitute, is-named}
+use Rattle.gwirandol.proofs.Naming.{is-substitute, is-named}
 use Rattle.gwirandol.proofs.traces.gw_named_string.Statement.{statement}
 use Rattle.gwirandol.proofs.traces.gw_named_string.Tie as tie
 

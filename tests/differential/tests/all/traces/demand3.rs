@@ -8,6 +8,7 @@ use decoder::generate::{pair, Pair, Random, Step};
 use decoder::{lent_group_is_sound, Event, Sheet, Values};
 use differential::compare::bytes::same;
 use differential::compare::fill;
+use differential::compare::numbers::Spare;
 use differential::failure::{hex, OnFailure};
 use differential::ffi::{self, Answer, Done};
 use differential::spread::Spread;
@@ -63,7 +64,7 @@ impl Side {
         let event = step.event();
         let over = self.over(&event);
         let before = self.stage.clone();
-        let (answer, done) = self.stage.library(&self.sheet, &event, 3);
+        let (answer, done) = self.stage.library(&self.sheet, &event, Spare::NONE);
         assert_eq!(answer.number() == 10, over, "rejected for the limit");
         if self.rejected || answer.is_refused() {
             same("a stopped trace", &self.stage.buffer, &before.buffer);

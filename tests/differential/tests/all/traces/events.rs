@@ -6,15 +6,48 @@ use crate::run::run;
 use decoder::generate::{scenario, sound_scenario, Random, Scenario};
 use decoder::{Applied, Event, EventRefusal, Sheet};
 use differential::compare::events::compare_event;
+use differential::compare::numbers::Spare;
 use differential::failure::OnFailure;
 use differential::spread::Spread;
 use std::hint::black_box;
 
 type Outcome = Result<Applied, EventRefusal>;
 
-/// The high level as its number, or as a number that counts as it.
+/// The high level as its number, or as one that counts as it: any but 2 and 8.
 fn high(random: &mut Random) -> u32 {
-    random.pick(&[3, 3, 3, 0, 4, 8, 32, 1 << 31, u32::MAX])
+    match random.below(4) {
+        0 => random.pick(&[
+            0,
+            1,
+            3,
+            4,
+            7,
+            9,
+            16,
+            31,
+            33,
+            1 << 31,
+            (1 << 31) + 8,
+            u32::MAX,
+        ]),
+        1 => match random.word() {
+            2 | 8 => 32,
+            other => other,
+        },
+        _ => 32,
+    }
+}
+
+/// Often no other bits than those that are named, else some, or all.
+pub fn spare(random: &mut Random) -> Spare {
+    Spare {
+        high: high(random),
+        bits: match random.below(4) {
+            0 => random.word(),
+            1 => random.pick(&[7, 8, 15, 16, 1 << 31, u32::MAX]),
+            _ => 0,
+        },
+    }
 }
 
 /// One event on both sides.
@@ -23,11 +56,11 @@ fn compare(
     theirs: &mut Stage,
     sheet: &Sheet,
     event: &Event,
-    high: u32,
+    spare: Spare,
 ) -> Outcome {
     let length = ours.length;
     let (mut our, mut their) = (ours.buffers(), theirs.buffers());
-    let result = compare_event(&mut our, &mut their, length, sheet, event, high);
+    let result = compare_event(&mut our, &mut their, length, sheet, event, spare);
     if let Ok(applied) = &result {
         (ours.length, theirs.length) = (applied.message_length, applied.message_length);
     }
@@ -44,9 +77,9 @@ fn play(case: &Scenario, random: &mut Random, spread: &mut Spread) {
     };
     let mut theirs = ours.clone();
     for (index, step) in case.events.iter().enumerate() {
-        let high = high(random);
-        let _told = OnFailure(|| format!("at event {index}, where {high} stands for high"));
-        let result = compare(&mut ours, &mut theirs, &case.sheet, &step.event(), high);
+        let spare = spare(random);
+        let _told = OnFailure(|| format!("at event {index}, {spare:?}"));
+        let result = compare(&mut ours, &mut theirs, &case.sheet, &step.event(), spare);
         spread.event(&result);
     }
     // Sheet and lent groups are as they were.

@@ -4,6 +4,7 @@ use super::stage::Stage;
 use decoder::generate::{assemble, Piece};
 use decoder::sample::{COMPOSED_LISTING, MADE_UP};
 use decoder::{Activity, Event, Level, Settings, Sheet, Values};
+use differential::compare::numbers::Spare;
 use differential::compare::text::Text;
 use differential::ffi::{self, Answer};
 
@@ -44,7 +45,7 @@ fn event(limit: u32, counters: [u32; 3], event: &Event) -> u32 {
         length: 180,
         report: vec![0; 100],
     };
-    let (answer, _) = stage.library(&Sheet::new(MADE_UP), event, 3);
+    let (answer, _) = stage.library(&Sheet::new(MADE_UP), event, Spare::NONE);
     answer.number()
 }
 
@@ -82,7 +83,7 @@ fn full_counters() {
 fn forward(forward: u32, deliver: u32, supporting: bool) -> Answer {
     let [a, b, c, d, e, f, ..] = PLAIN;
     let message = composed([a, b, c, d, e, f, forward, deliver]);
-    ffi::forward(&message, 180, &MADE_UP, supporting)
+    ffi::forward(&message, 180, &MADE_UP, Spare::NONE.forwarding(supporting))
 }
 
 #[test]

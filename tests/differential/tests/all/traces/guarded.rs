@@ -1,11 +1,13 @@
 //! No function for traces reads or writes outside of what it is lent; as for
 //! the structures, a fault here ends the program.
 
+use super::events::spare;
 use super::read::{self, any_case};
 use crate::run::run;
 use decoder::generate::{any_sheet, any_values, scenario, Scenario, Step, NAMES};
 use decoder::{Activity, Event};
 use differential::compare::events::{compare_event, Buffers};
+use differential::compare::numbers::Spare;
 use differential::compare::parts::{compare_group, compare_name};
 use differential::compare::traces::compare_compose;
 use differential::guard::{Edge, Guarded, EDGES};
@@ -17,11 +19,12 @@ fn generated_traces() {
     run("guarded traces", 20_000, &[], |random, spread| {
         let (message, sheet) = any_case(random);
         let name = (random.below(3), random.pick(&NAMES));
+        let spare = spare(random);
         // The message alone, so that its end is the buffer's.
         let exact = message.buffer.get(..message.length).unwrap_or_default();
         for edge in EDGES {
             let lent = area.lend(exact, edge);
-            read::compare(lent, exact.len(), &sheet, spread);
+            read::compare(lent, exact.len(), &sheet, spare, spread);
             let found = compare_group(lent, exact.len(), &sheet, name.0);
             spread.note("group", u32::from(!found));
             spread.name(compare_name(lent, exact.len(), &sheet, name));
@@ -68,7 +71,7 @@ fn compare(case: &Scenario, step: &Step, edge: Edge, areas: &mut [Guarded; 3], m
         length,
         sheet,
         &event,
-        3,
+        Spare::NONE,
     ));
 }
 

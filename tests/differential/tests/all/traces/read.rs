@@ -1,5 +1,6 @@
 //! Read, forwarding and arrival under sound and unsound sheets.
 
+use super::events::spare;
 use super::show;
 use crate::run::run;
 use crate::structures::other_length;
@@ -8,6 +9,7 @@ use decoder::generate::{
 };
 use decoder::Sheet;
 use differential::compare::bytes::same;
+use differential::compare::numbers::Spare;
 use differential::compare::traces::{compare_decisions, compare_read};
 use differential::failure::OnFailure;
 use differential::spread::Spread;
@@ -32,9 +34,9 @@ pub fn other_sheet(random: &mut Random) -> Sheet {
 }
 
 /// Read and the decisions on one message.
-pub fn compare(buffer: &[u8], length: usize, sheet: &Sheet, spread: &mut Spread) {
+pub fn compare(buffer: &[u8], length: usize, sheet: &Sheet, spare: Spare, spread: &mut Spread) {
     spread.answer("read", compare_read(buffer, length, sheet));
-    for (entry, answer) in compare_decisions(buffer, length, sheet) {
+    for (entry, answer) in compare_decisions(buffer, length, sheet, spare) {
         spread.answer(entry, answer);
     }
 }
@@ -47,7 +49,7 @@ fn case(random: &mut Random, spread: &mut Spread) {
     let before = (buffer.clone(), sheet);
     let asked = [(length, &sheet), (length, &others.1), (others.0, &sheet)];
     for (length, sheet) in asked {
-        compare(buffer, length, sheet, spread);
+        compare(buffer, length, sheet, spare(random), spread);
     }
     same("the message", buffer, &before.0);
     assert_eq!(std::hint::black_box(&sheet), &before.1);

@@ -2,6 +2,7 @@
 
 use decoder::{Event, Sheet};
 use differential::compare::events::{give, Buffers};
+use differential::compare::numbers::Spare;
 use differential::ffi::{Answer, Done};
 
 /// A trace and its report buffer as the events so far have left them.
@@ -21,9 +22,9 @@ impl Stage {
         }
     }
 
-    pub fn library(&mut self, sheet: &Sheet, event: &Event, high: u32) -> (Answer, Done) {
+    pub fn library(&mut self, sheet: &Sheet, event: &Event, spare: Spare) -> (Answer, Done) {
         let length = self.length;
-        let (answer, done) = give(&mut self.buffers(), length, sheet, event, high);
+        let (answer, done) = give(&mut self.buffers(), length, sheet, event, spare);
         if !answer.is_refused() {
             self.length = done.message_length as usize;
         }

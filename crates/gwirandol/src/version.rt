@@ -1,0 +1,17 @@
+// The version of the library.
+ghost use mathlib.Core.Path.{_≡_};
+ghost use Rattle.gwirandol.specs.Version.{version};
+
+const MAJOR: u32 = 0;
+
+const MINOR: u32 = 2;
+
+const PATCH: u32 = 0;
+
+// VERSION: the number that the header calls GW_VERSION.
+#[no_mangle]
+pub extern "C" fn gw_version() -> u32
+    ensures { λ r. ⌜ r ≡ version ⌝ }
+{
+    MAJOR * 1000000 + MINOR * 1000 + PATCH
+}
