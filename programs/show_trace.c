@@ -1,7 +1,7 @@
 /* Shows a trace-route message, an activity report or any other PCF message to people. All that is known of where structures
  * begin and end is asked of the library, and nothing of a message is read before the library has accepted it. */
 #include "ending.h"
-#include "show.h"
+#include "show_trace.h"
 
 #include <inttypes.h>
 #include <stdio.h>

@@ -1,6 +1,6 @@
 /* What the parts of show_trace share. */
-#ifndef SHOW_H
-#define SHOW_H
+#ifndef SHOW_TRACE_H
+#define SHOW_TRACE_H
 
 #include "gwirandol.h"
 #include "mq_names.h"
@@ -46,23 +46,23 @@ struct message {
     size_t length;
 };
 
-/* show_fields.c: numbers, text and bytes. */
+/* show_trace_fields.c: numbers, text and bytes. */
 uint32_t number_at(const struct message *m, size_t place);
 void show_integer(uint32_t value, enum mqn_set set);
 void show_words(uint32_t value, enum mqn_set set);
 size_t show_plain(const struct message *m, size_t place, size_t length);
 void show_fields(const struct message *m, const gw_row *row);
 
-/* show_structures.c: structures, and what is inside groups. */
+/* show_trace_structures.c: structures, and what is inside groups. */
 bool step(const struct message *m, size_t place, uint64_t depth, gw_row *row);
 size_t behind(const struct message *m, const gw_row *row);
 bool is_group(const gw_row *row, uint32_t identifier);
 void show_structures(const struct message *m, bool trace);
 
-/* show_attributes.c: the eight attributes of a trace, and what the library decides about it. */
+/* show_trace_attributes.c: the eight attributes of a trace, and what the library decides about it. */
 void show_attributes(const struct message *m, const uint32_t values[GW_ATTRIBUTES]);
 
-/* show_summary.c: one line for each activity. */
+/* show_trace_summary.c: one line for each activity. */
 void show_summary(const struct message *m);
 
 /* The identifiers under which the attributes are looked for: IBM's. */

@@ -1,5 +1,5 @@
 /* The fields of one structure: numbers, text and bytes, as people read them. */
-#include "show.h"
+#include "show_trace.h"
 
 #include <inttypes.h>
 #include <stdio.h>

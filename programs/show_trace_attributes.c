@@ -1,5 +1,5 @@
 /* The eight attributes of a trace. What becomes of the message is not worked out here: the library is asked. */
-#include "show.h"
+#include "show_trace.h"
 
 #include <inttypes.h>
 #include <stdio.h>

@@ -1,6 +1,6 @@
 /* One line for each activity: its number, the queue manager, the application, the operations, and the first operation's date
  * and time. A dash stands for what is not there. */
-#include "show.h"
+#include "show_trace.h"
 
 #include <inttypes.h>
 #include <stdio.h>

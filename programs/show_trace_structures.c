@@ -1,5 +1,5 @@
 /* The structures of a message, each on a line of its own, and what is inside a group two columns further in. */
-#include "show.h"
+#include "show_trace.h"
 
 #include <inttypes.h>
 #include <stdio.h>
