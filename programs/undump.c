@@ -98,8 +98,11 @@ static int take_words(struct dump *d, const char *s, size_t line)
         if (n == 0) {
             return fault(line, *s == '\0' || *s == '\'' ? "a word is missing" : "a malformed word");
         }
-        if ((n == 2) != (wanted == 1)) {
-            return fault(line, n == 2 ? "a word has two digits, and more bytes are due" : "there are more bytes than the stated length");
+        if (n == 2 && wanted > 1) {
+            return fault(line, "a word has two digits, and more bytes are due");
+        }
+        if (n != 2 && wanted == 1) {
+            return fault(line, "there are more bytes than the stated length");
         }
         for (const char *pair = n == 5 ? s + 1 : s; pair < s + n; pair += 2, wanted--) {
             d->bytes[d->filled++] = (uint8_t)value(pair, 2);
@@ -125,7 +128,8 @@ static int take_line(struct dump *d, long wanted, const char *s, size_t line)
         return fault(line, "no line 'length - L of L bytes' before the dump says how long it is");
     }
     if (offset != d->filled) {
-        fprintf(stderr, "undump: line %zu: the offset is %zu, but %zu bytes came before; is a line missing?\n", line, offset, d->filled);
+        fprintf(stderr, "undump: line %zu: the offset is %zu, but %zu bytes came before; is a line missing?\n", line, offset,
+                d->filled);
         return ENDED_REFUSED;
     }
     if (d->filled == d->length) {
@@ -231,7 +235,7 @@ int main(int argc, char **argv)
         wanted = strtol(argv[1], &end, 10);
     }
     if (argc > 2 || *end != '\0' || wanted < 1) {
-        fprintf(stderr, "%s", help);
+        fprintf(stderr, "undump: neither an option nor the number of a dump: %s\n%s", argv[argc - 1], help);
         return ENDED_FAILED;
     }
     return ended("undump", undump(wanted));
