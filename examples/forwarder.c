@@ -1,19 +1,30 @@
 /* What a program on the path of trace-route messages does around the library. A real one gets the message with MQGET and puts
- * it on with MQPUT; this one reads and writes files.
+ * message, reply and report with MQPUT, all in one unit of work; this one reads and writes files.
  *
- *     forwarder new MESSAGE LIMIT       composes a trace-route message with this limit of activities
- *     forwarder on MESSAGE REPORT       enters its own activity, writes the report, and says whether the message goes on
- *     forwarder arrive MESSAGE          says what happens to the message at its end */
+ *     forwarder new MESSAGE LIMIT        composes a trace-route message with this limit of activities
+ *     forwarder on MESSAGE REPORT        enters its activity and says whether the message goes on
+ *     forwarder arrive MESSAGE REPORT    enters its activity and says whether the message is put to its queue
+ *
+ * The exit status is 0 if it goes on or is put, 1 if not, and 2 for wrong usage or a file that does not work. */
 
 #include "gwirandol.h"
 
+#include <inttypes.h>
 #include <stdio.h>
 #include <stdlib.h>
 #include <string.h>
 
 enum { MOST = 65536 };
 
-static const uint32_t sheet[8] = GW_IBM_SHEET;
+/* IBM's MQFB_NOT_DELIVERED: the sender wants no delivery. The library does not refuse such a message, it withholds it. */
+enum { NOT_DELIVERED = 284 };
+
+/* A real program has the first from the descriptor (MQRO_ACTIVITY in its Report field), the next two from its queue manager
+ * (ACTIVREC, ROUTEREC), and the last from its partner. Each function looks only at the bits that concern it. */
+static const uint32_t options = GW_OPTION_REPORTS_ASKED | GW_OPTION_ACTIVITY_RECORDING | GW_OPTION_TRACE_ROUTE_MESSAGING |
+                                GW_OPTION_REMOTE_SUPPORTS;
+
+static const uint32_t sheet[GW_ATTRIBUTES] = GW_IBM_SHEET;
 static uint8_t message[MOST];
 static uint8_t report[MOST];
 
@@ -23,16 +34,24 @@ static const uint8_t activity[] = {
     0, 0, 0, 4,  0, 0, 0, 32, 0, 0, 0x0b, 0xd0, 0, 0, 0, 0,
     0, 0, 0, 12, 'f', 'o', 'r', 'w', 'a', 'r', 'd', 'e', 'r', ' ', ' ', ' '};
 
+static void fail(const char *name)
+{
+    perror(name);
+    exit(2);
+}
+
 static size_t load(const char *name)
 {
     FILE *file = fopen(name, "rb");
     if (!file) {
-        perror(name);
-        exit(2);
+        fail(name);
     }
     size_t length = fread(message, 1, sizeof message, file);
     if (fgetc(file) != EOF) {
         length++; /* longer than any message: the library refuses a length above the buffer */
+    }
+    if (ferror(file)) {
+        fail(name);
     }
     fclose(file);
     return length;
@@ -42,81 +61,112 @@ static void save(const char *name, const uint8_t *bytes, size_t length)
 {
     FILE *file = fopen(name, "wb");
     if (!file || fwrite(bytes, 1, length, file) != length || fclose(file) != 0) {
-        perror(name);
-        exit(2);
+        fail(name);
     }
-}
-
-static int refuse(const char *what, gw_answer answer)
-{
-    printf("%s refused with %u: %s\n", what, (unsigned)gw_number(answer), gw_in_words(gw_number(answer)));
-    return 1;
 }
 
 static int compose(const char *name, uint32_t limit)
 {
     /* low detail, nothing counted yet, accumulated in the message with a reply, to be forwarded to all, not delivered */
-    uint32_t values[8] = {GW_MQROUTE_DETAIL_LOW, 0, 0, 0, limit, GW_MQROUTE_ACCUMULATE_AND_REPLY,
-                          GW_MQROUTE_FORWARD_ALL, GW_MQROUTE_DELIVER_NO};
+    uint32_t values[GW_ATTRIBUTES] = {GW_MQROUTE_DETAIL_LOW, 0, 0, 0, limit, GW_MQROUTE_ACCUMULATE_AND_REPLY,
+                                      GW_MQROUTE_FORWARD_ALL, GW_MQROUTE_DELIVER_NO};
     gw_answer answer = gw_compose(sheet, values, message, sizeof message);
-    if (gw_number(answer) != 0) {
-        return refuse("the message is", answer);
+    if (gw_number(answer) != GW_ACCEPTED) {
+        printf("refused with %" PRIu32 ": %s\n", gw_number(answer), gw_in_words(gw_number(answer)).text);
+        return 1;
     }
     save(name, message, gw_value(answer));
-    printf("%s: a trace-route message of %llu bytes\n", name, (unsigned long long)gw_value(answer));
+    printf("%s: a trace-route message of %" PRIu64 " bytes\n", name, gw_value(answer));
     return 0;
 }
 
-/* The activity is entered before the decision, so that it is in the message that goes on. */
-static int forward(const char *name, const char *report_name)
+/* A reply is owed where a message ends, be it rejected or put to a queue, if it asks for one and the queue manager does
+ * trace-route messaging. */
+static const char *reply(size_t length)
+{
+    uint32_t values[GW_ATTRIBUTES];
+    bool owed = (options & GW_OPTION_TRACE_ROUTE_MESSAGING) != 0 &&
+                gw_number(gw_read(message, sizeof message, length, sheet, values)) == GW_ACCEPTED &&
+                values[GW_ATTR_ACCUMULATE] == GW_MQROUTE_ACCUMULATE_AND_REPLY;
+    return owed ? "a reply is owed" : "no reply is owed";
+}
+
+/* A refused message. Where IBM has a feedback for the refusal, it goes into the message's descriptor, and the report options
+ * there say what becomes of the message. The other refusals say that it is no trace, or that the activity does not fit into
+ * it; it is then treated like any other message. */
+static int reject(gw_answer answer, size_t length)
+{
+    uint32_t feedback = gw_feedback(gw_number(answer));
+    printf("%s: %s\n", feedback != 0 ? "the message is rejected" : "no activity is entered", gw_in_words(gw_number(answer)).text);
+    if (feedback != 0) {
+        printf("its feedback is %" PRIu32 "; %s\n", feedback, reply(length));
+    }
+    return 1;
+}
+
+/* What the library decides about a message that our activity is in. */
+static int decide(size_t length, bool arrived)
+{
+    gw_answer answer = arrived ? gw_arrive(message, sizeof message, length, sheet)
+                               : gw_forward(message, sizeof message, length, sheet, options);
+    if (gw_number(answer) != GW_ACCEPTED) {
+        return reject(answer, length);
+    }
+    if (gw_value(answer) == GW_DECIDED_FORWARD) {
+        printf("the message goes on\n");
+        return 0;
+    }
+    if (gw_value(answer) == GW_DECIDED_PUT) {
+        printf("the message is put to its queue; %s\n", reply(length));
+        return 0;
+    }
+    printf("the message is kept from its queue\nits feedback is %d; %s\n", NOT_DELIVERED, reply(length));
+    return 1;
+}
+
+/* The order is the one that IBM's manuals give to programs: count the activity, reject what is above the limit, write the
+ * Activity group, only then decide where the message goes, and put the report last. The first three are one call. So the
+ * activity of a message that is rejected afterwards has been performed, is counted in it and can be seen in its reply.
+ *
+ * The message is kept as the call left it, rejected or not, and before the report is: a report that was put while its message
+ * is still the old one would tell of an activity that the message's counters do not know. A refusal of the call changes
+ * nothing, so that there is nothing to keep and no report. */
+static int handle(const char *name, const char *report_name, bool arrived)
 {
     size_t length = load(name);
     gw_done done;
-    gw_answer answer = gw_activity(message, sizeof message, length, sheet, GW_MEDIUM, activity, sizeof activity, true, true, true,
+    /* a program's own activities are of the low level; gw_activity in the header says which levels a Detail records */
+    gw_answer answer = gw_activity(message, sizeof message, length, sheet, options, GW_LEVEL_LOW, activity, sizeof activity,
                                    report, sizeof report, &done);
-    if (gw_number(answer) == GW_MAX_ACTIVITIES) {
-        printf("the limit is reached: the message is discarded, %s\n", gw_value(answer) ? "and its sender is owed a reply" : "without a reply");
-        return 1;
+    if (gw_number(answer) != GW_ACCEPTED) {
+        return reject(answer, length);
     }
-    if (gw_number(answer) != 0) {
-        return refuse("the activity is", answer);
-    }
-    printf("entered as %s activity; the message now has %llu bytes\n",
-           done.counter == GW_RECORDED_ACTIVITIES ? "a recorded" : "an unrecorded", (unsigned long long)done.message_length);
+    printf("entered as %s activity; the message now has %" PRIu64 " bytes\n",
+           done.counter == GW_ATTR_RECORDED_ACTIVITIES ? "a recorded" : "an unrecorded", done.message_length);
+    int status = decide(done.message_length, arrived);
+    save(name, message, done.message_length);
     if (done.report_length > 0) {
         save(report_name, report, done.report_length);
-        printf("%s: a report of %llu bytes\n", report_name, (unsigned long long)done.report_length);
+        printf("%s: a report of %" PRIu64 " bytes\n", report_name, done.report_length);
     }
-    answer = gw_forward(message, sizeof message, done.message_length, sheet, true);
-    if (gw_number(answer) != 0) {
-        return refuse("forwarding is", answer);
-    }
-    save(name, message, done.message_length);
-    printf("the message goes on\n");
-    return 0;
-}
-
-static int arrive(const char *name)
-{
-    gw_answer answer = gw_arrive(message, sizeof message, load(name), sheet);
-    if (gw_number(answer) != 0) {
-        return refuse("arrival is", answer);
-    }
-    printf("the message is %s\n", gw_value(answer) == GW_PUT ? "put to its queue" : "withheld: its queue is not to have it");
-    return 0;
+    return status;
 }
 
 int main(int argc, char **argv)
 {
     if (argc == 4 && strcmp(argv[1], "new") == 0) {
-        return compose(argv[2], (uint32_t)strtoul(argv[3], NULL, 10));
+        char *end;
+        unsigned long limit = strtoul(argv[3], &end, 10);
+        if (end != argv[3] && *end == '\0' && limit <= INT32_MAX) {
+            return compose(argv[2], (uint32_t)limit);
+        }
     }
     if (argc == 4 && strcmp(argv[1], "on") == 0) {
-        return forward(argv[2], argv[3]);
+        return handle(argv[2], argv[3], false);
     }
-    if (argc == 3 && strcmp(argv[1], "arrive") == 0) {
-        return arrive(argv[2]);
+    if (argc == 4 && strcmp(argv[1], "arrive") == 0) {
+        return handle(argv[2], argv[3], true);
     }
-    fprintf(stderr, "usage: forwarder new MESSAGE LIMIT | on MESSAGE REPORT | arrive MESSAGE\n");
+    fprintf(stderr, "usage: forwarder new MESSAGE LIMIT | on MESSAGE REPORT | arrive MESSAGE REPORT\n");
     return 2;
 }

@@ -1,165 +1,121 @@
-/* Shows a trace-route message to people: a message on standard input, words on standard output. The attributes are looked
- * for under IBM's identifiers. A refusal is said with its number, its meaning and its place, and the exit status is 1. */
+/* Shows a trace-route message, an activity report or any other PCF message to people. All that is known of where structures
+ * begin and end is asked of the library, and nothing of a message is read before the library has accepted it. */
+#include "ending.h"
+#include "show_trace.h"
 
-#include "gwirandol.h"
-
+#include <inttypes.h>
 #include <stdio.h>
+#include <string.h>
 
-/* A list may have millions of empty strings; people want to see the first items. */
-enum { MOST = 65536, SHOWN = 16 };
+enum { MOST = 65536 };
 
-static uint8_t message[MOST + 1];
+/* One byte more than any message has, so that a longer input is refused and not cut. */
+static uint8_t buffer[MOST + 1];
 
-static uint32_t number(size_t at)
+static const char help[] =
+    "usage: show_trace [--summary] [FILE]\n"
+    "Shows a PCF message, from FILE or standard input: a trace-route message with its attributes first, an activity\n"
+    "report, or any other.\n"
+    "  --summary  one line for each activity: number, queue manager, application, operations, date and time\n"
+    "  --help     this text\n"
+    "  --version  the version\n"
+    "Exit status: 0 shown, 1 refused, 2 usage, or reading or writing failed.\n";
+
+static int misused(const char *what, const char *argument)
 {
-    return (uint32_t)message[at] << 24 | (uint32_t)message[at + 1] << 16 | (uint32_t)message[at + 2] << 8 | message[at + 3];
+    fprintf(stderr, "show_trace: %s: %s\n%s", what, argument, help);
+    return ENDED_FAILED;
 }
 
-static const char *detail(uint32_t value)
+static int refused(const char *what, gw_answer answer)
 {
-    return value == GW_MQROUTE_DETAIL_LOW ? "low" : value == GW_MQROUTE_DETAIL_MEDIUM ? "medium" : "high";
+    fprintf(stderr, "show_trace: %s with %" PRIu32 " at byte %" PRIu64 ": %s\n", what, gw_number(answer), gw_value(answer),
+            gw_in_words(gw_number(answer)).text);
+    return ENDED_REFUSED;
 }
 
-static const char *accumulate(uint32_t value)
+static void show_field(const struct message *m, const char *name, size_t place, enum mqn_set set)
 {
-    return value == GW_MQROUTE_ACCUMULATE_NONE     ? "nothing"
-           : value == GW_MQROUTE_ACCUMULATE_IN_MSG ? "in the message"
-                                                   : "in the message, and a reply is asked for";
-}
-
-/* Two bits of which one is set, and options that not every queue manager knows. */
-static void option(const char *name, uint32_t value, uint32_t bit, const char *set, const char *clear)
-{
-    printf("%-21s %s", name, value & bit ? set : clear);
-    if (value & 0xFFFF0000) {
-        printf(", and unknown options 0x%08x", (unsigned)(value & 0xFFFF0000));
-    }
+    printf("%-21s ", name);
+    show_integer(number_at(m, place), set);
     printf("\n");
 }
 
-static void attributes(const uint32_t v[8])
+static void show_header(const struct message *m)
 {
-    uint64_t used = (uint64_t)v[GW_RECORDED_ACTIVITIES] + v[GW_UNRECORDED_ACTIVITIES] + v[GW_DISCONTINUITY_COUNT];
-    printf("%-21s %s\n", "Detail", detail(v[GW_DETAIL]));
-    printf("%-21s %u\n", "RecordedActivities", (unsigned)v[GW_RECORDED_ACTIVITIES]);
-    printf("%-21s %u\n", "UnrecordedActivities", (unsigned)v[GW_UNRECORDED_ACTIVITIES]);
-    printf("%-21s %u\n", "DiscontinuityCount", (unsigned)v[GW_DISCONTINUITY_COUNT]);
-    if (v[GW_MAX_ACTIVITIES_LIMIT] == 0) {
-        printf("%-21s unlimited, %llu used\n", "MaxActivities", (unsigned long long)used);
+    bool report = number_at(m, 0) == 12 && number_at(m, 12) == 69;
+    printf("%s of %zu bytes\n\n", report ? "An activity report" : "A PCF message", m->length);
+    show_field(m, "Type", 0, MQN_HEADER_TYPES);
+    show_field(m, "Version", 8, MQN_NO_VALUES);
+    show_field(m, "Command", 12, MQN_COMMANDS);
+    show_field(m, "MsgSeqNumber", 16, MQN_NO_VALUES);
+    show_field(m, "Control", 20, MQN_CONTROLS);
+    show_field(m, "CompCode", 24, MQN_COMP_CODES);
+    show_field(m, "Reason", 28, MQN_REASONS);
+    show_field(m, "ParameterCount", 32, MQN_NO_VALUES);
+}
+
+/* A message with a trace's header that is refused as a trace is shown like any other, for who must mend it, and refused. */
+static int show(const struct message *m, bool summary)
+{
+    uint32_t values[GW_ATTRIBUTES];
+    gw_answer checked = gw_check(m->bytes, m->size, m->length);
+    if (gw_number(checked) != GW_ACCEPTED) {
+        return refused("refused", checked);
+    }
+    gw_answer read = gw_read(m->bytes, m->size, m->length, ibm_sheet, values);
+    bool trace = gw_number(read) == GW_ACCEPTED;
+    if (summary) {
+        show_summary(m);
+    } else if (trace) {
+        printf("A trace-route message of %zu bytes\n\n", m->length);
+        show_attributes(m, values);
+        show_structures(m, true);
     } else {
-        printf("%-21s %u, of which %llu used\n", "MaxActivities", (unsigned)v[GW_MAX_ACTIVITIES_LIMIT], (unsigned long long)used);
+        show_header(m);
+        show_structures(m, false);
     }
-    printf("%-21s %s\n", "Accumulate", accumulate(v[GW_ACCUMULATE]));
-    option("Forward", v[GW_FORWARD_OPTION], GW_MQROUTE_FORWARD_ALL, "to every queue manager", "only to queue managers that know trace-route messages");
-    option("Deliver", v[GW_DELIVER_OPTION], GW_MQROUTE_DELIVER_YES, "yes", "no");
+    return trace || gw_number(read) == GW_REFUSED_TRACE_HEADER ? ENDED_WELL : refused("as a trace refused", read);
 }
 
-/* Text without trailing blanks; what is not printable is a dot. */
-static void text(size_t at, size_t length)
+static int show_file(const char *name, bool summary)
 {
-    while (length > 0 && message[at + length - 1] == ' ') {
-        length--;
+    FILE *file = name ? fopen(name, "rb") : stdin;
+    const char *called = name ? name : "standard input";
+    if (!file) {
+        perror(called);
+        return ENDED_FAILED;
     }
-    for (size_t i = 0; i < length; i++) {
-        uint8_t c = message[at + i];
-        putchar(c >= 32 && c < 127 ? c : '.');
+    struct message m = {buffer, sizeof buffer, fread(buffer, 1, sizeof buffer, file)};
+    if (ferror(file)) {
+        perror(called);
+        return ENDED_FAILED;
     }
+    return show(&m, summary);
 }
 
-static void bytes(size_t at, size_t length)
+int main(int argc, char **argv)
 {
-    for (size_t i = 0; i < length && i < SHOWN; i++) {
-        printf("%02x", message[at + i]);
-    }
-    if (length > SHOWN) {
-        printf(" .. (%zu bytes)", length);
-    }
-}
-
-static void rest(size_t count)
-{
-    if (count > SHOWN) {
-        printf(" .. (%zu items)", count);
-    }
-}
-
-/* A structure of a message that was accepted: its fields are there. */
-static void structure(const gw_row *row)
-{
-    size_t at = row->place;
-    printf("%*s", (int)(row->depth * 2), "");
-    switch (row->type) {
-    case 3:
-        printf("%llu: %u", (unsigned long long)row->parameter, (unsigned)number(at + 12));
-        break;
-    case 4:
-        printf("%llu: ", (unsigned long long)row->parameter);
-        text(at + 20, number(at + 16));
-        break;
-    case 5:
-        printf("%llu:", (unsigned long long)row->parameter);
-        for (size_t i = 0; i < number(at + 12) && i < SHOWN; i++) {
-            printf(" %u", (unsigned)number(at + 16 + 4 * i));
+    const char *name = NULL;
+    bool summary = false;
+    for (int i = 1; i < argc; i++) {
+        if (strcmp(argv[i], "--help") == 0) {
+            printf("%s", help);
+            return ended("show_trace", ENDED_WELL);
         }
-        rest(number(at + 12));
-        break;
-    case 6:
-        printf("%llu:", (unsigned long long)row->parameter);
-        for (size_t i = 0; i < number(at + 16) && i < SHOWN; i++) {
-            printf(i == 0 ? " " : ", ");
-            text(at + 24 + i * number(at + 20), number(at + 20));
+        if (strcmp(argv[i], "--version") == 0) {
+            printf("show_trace %s\n", GW_VERSION_TEXT);
+            return ended("show_trace", ENDED_WELL);
         }
-        rest(number(at + 16));
-        break;
-    case 9:
-        printf("%llu: ", (unsigned long long)row->parameter);
-        bytes(at + 16, number(at + 12));
-        break;
-    case 23:
-        printf("%llu: %llu", (unsigned long long)row->parameter,
-               (unsigned long long)number(at + 16) << 32 | number(at + 20));
-        break;
-    case 20:
-        printf("group %llu", (unsigned long long)row->parameter);
-        break;
-    default:
-        printf("%llu: type %llu, %llu bytes", (unsigned long long)row->parameter, (unsigned long long)row->type,
-               (unsigned long long)row->length);
+        if (strcmp(argv[i], "--summary") == 0) {
+            summary = true;
+        } else if (argv[i][0] == '-') {
+            return misused("there is no such option", argv[i]);
+        } else if (name) {
+            return misused("one file only", argv[i]);
+        } else {
+            name = argv[i];
+        }
     }
-    printf("\n");
-}
-
-/* What is inside a group: structure behind structure, each one deeper than the group that counts it. */
-static size_t members(size_t length, size_t place, uint32_t depth, uint64_t count)
-{
-    gw_row row;
-    while (count > 0 && gw_step(message, sizeof message, length, place, depth, &row) == 0) {
-        structure(&row);
-        place = members(length, row.next, depth + 1, row.members);
-        count--;
-    }
-    return place;
-}
-
-int main(void)
-{
-    static const uint32_t sheet[8] = GW_IBM_SHEET;
-    uint32_t values[8];
-    size_t length = fread(message, 1, sizeof message, stdin);
-    gw_answer answer = gw_read(message, sizeof message, length, sheet, values);
-    if (gw_number(answer) != 0) {
-        printf("refused with %u at byte %llu: %s\n", (unsigned)gw_number(answer), (unsigned long long)gw_value(answer),
-               gw_in_words(gw_number(answer)));
-        return 1;
-    }
-    printf("A trace-route message of %zu bytes\n\n", length);
-    attributes(values);
-    gw_part part;
-    for (size_t n = 0; gw_activity_group(message, sizeof message, length, sheet, n, &part), part.length > 0; n++) {
-        gw_row row;
-        gw_step(message, sizeof message, length, part.place, 1, &row);
-        printf("\nActivity %zu, byte %llu, %llu bytes\n", n + 1, (unsigned long long)part.place, (unsigned long long)part.length);
-        members(length, row.next, 1, row.members);
-    }
-    return 0;
+    return ended("show_trace", show_file(name, summary));
 }
