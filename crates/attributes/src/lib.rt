@@ -22,5 +22,6 @@ pub use names::MQROUTE_DETAIL_LOW;
 pub use names::MQROUTE_DETAIL_MEDIUM;
 pub use names::RECORDED_ACTIVITIES;
 pub use names::UNRECORDED_ACTIVITIES;
+pub use ranges::any_bit;
 pub use ranges::in_range;
 pub use sheet::sheet_ok;

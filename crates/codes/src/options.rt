@@ -1,6 +1,6 @@
 // The options of a call, taken apart: one number for C, whose bits have names.
+use attributes::any_bit;
 ghost use mathlib.Core.Path.{_≡_};
-ghost use Rattle.meaning.specs.Trace.{anyBit};
 ghost use Rattle.codes.specs.Options.{optionsIn};
 
 // Reports are asked for; what the queue manager does: activity recording, trace-route messaging; whether the remote one
@@ -20,20 +20,14 @@ const TRACE_ROUTE_MESSAGING: u32 = 4;
 
 const REMOTE_SUPPORTS: u32 = 8;
 
-fn has(options: u32, bit: u32) -> bool
-    ensures { λ r. ⌜ r ≡ anyBit bit options ⌝ }
-{
-    options & bit != 0
-}
-
 // What the bits say; bits without a name are ignored.
 pub fn options_of(options: u32) -> Options
     ensures { λ r. ⌜ r ≡ optionsIn options ⌝ }
 {
     Options {
-        asked: has(options, REPORTS_ASKED),
-        recording: has(options, ACTIVITY_RECORDING),
-        messaging: has(options, TRACE_ROUTE_MESSAGING),
-        supporting: has(options, REMOTE_SUPPORTS),
+        asked: any_bit(options, REPORTS_ASKED),
+        recording: any_bit(options, ACTIVITY_RECORDING),
+        messaging: any_bit(options, TRACE_ROUTE_MESSAGING),
+        supporting: any_bit(options, REMOTE_SUPPORTS),
     }
 }

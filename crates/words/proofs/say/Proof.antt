@@ -1,5 +1,4 @@
 -- `say` meets its contract: the copy, and one byte behind it.
-use mathlib.Core.Path.{refl}
 use borrow.Author.Needs.{needs}
 use Rattle.words.proofs.Sayings.{with-zero}
 use Rattle.words.proofs.say.Statement.{statement}

@@ -14,4 +14,4 @@ options-of-spec =
     (λ c κs. search needs)
     (λ c κs. search needs)
     (λ c κs. search needs)
-    (λ c. rw (c .before .before .before .has .ensures, c .before .before .has2 .ensures, c .before .has3 .ensures, c .has4 .ensures) refl))
+    (λ c. rw (c .before .before .before .any-bit .ensures, c .before .before .any-bit2 .ensures, c .before .any-bit3 .ensures, c .any-bit4 .ensures) refl))
