@@ -65,7 +65,7 @@ static const struct mqn_name mqn_names[] = {
     {1257, MQN_INTEGER, "MQIACF_UNRECORDED_ACTIVITIES", "UnrecordedActivities"},
     {1259, MQN_INTEGER, "MQIACF_ROUTE_FORWARDING", "Forward"},
     {1275, MQN_INTEGER, "MQIACF_SUBSCRIPTION_SCOPE", "SubscriptionScope"},
-    {1282, MQN_INTEGER, "MQIACF_SUB_LEVEL", "SubLevel"},
+    {1307, MQN_INTEGER, "MQIACF_SUB_LEVEL", "SubLevel"},
     {1511, MQN_INTEGER, "MQIACH_CHANNEL_TYPE", "ChannelType"},
     {1514, MQN_INTEGER, "MQIACH_MSG_SEQUENCE_NUMBER", "MsgSeqNumber"},
     {2002, MQN_STRING, "MQCA_BASE_OBJECT_NAME", "BaseObjectName"},

@@ -252,7 +252,7 @@ static const struct mqn_value mqn_values[] = {
     {MQN_COMMANDS, MQN_ALL, 69, "MQCMD_ACTIVITY_MSG", "activity report"},
     {MQN_COMMANDS, MQN_ALL, 75, "MQCMD_TRACE_ROUTE", "trace-route"},
     {MQN_COMMANDS, MQN_ALL, 90, "MQCMD_SET_AUTH_REC", "set authority record"},
-    {MQN_COMMANDS, MQN_ALL, 94, "MQCMD_LOGGER_EVENT", "logger event"},
+    {MQN_COMMANDS, MQN_ALL, 91, "MQCMD_LOGGER_EVENT", "logger event"},
     {MQN_COMMANDS, MQN_ALL, 99, "MQCMD_COMMAND_EVENT", "command event"},
 
     {MQN_CONTROLS, MQN_ALL, 0, "MQCFC_NOT_LAST", "not the last message"},
