@@ -1,0 +1,3 @@
+pub mod Hops
+pub mod Prints
+pub mod Groups
