@@ -1,47 +1,25 @@
 -- What is known of Read once a trace was found, or refused.
-use mathlib.Core.Path.{_≡_, refl, sym, ap, _∙_}
+use mathlib.Core.Path.{_≡_, refl, sym, ap}
 use mathlib.Core.Bool.{Bool, true, false}
 use mathlib.Core.List.{List, []}
 use Prim.Native.Nat.{ℕ}
 use lib.ListN.{length}
-use Rattle.meaning.specs.Answer.{Result, accepted, refused}
-use Rattle.meaning.specs.Structure.{Row}
+use Rattle.meaning.specs.Answer.{accepted}
 use Rattle.meaning.specs.Trace.{Terms, Trace, readTrace}
 use Rattle.meaning.specs.Event.{Event, discontinuity, denied, soundEvent, groupOf, Plan, planOf, decide, applied, leaving, onTrace, event, groupOk}
-use Rattle.refusals.specs.Refusals.{numberOf, placeOf, owed, refusal}
+use Rattle.refusals.specs.Refusals.{numberOf, placeOf, owed}
 use Rattle.refusals.specs.declared.Refusal.{Refusal}
 use Rattle.refusals.specs.declared.Refusal.the-variants as refusals
-use Rattle.meaning.proofs.Tests.{clash}
 use Rattle.meaning.proofs.Outcomes.{read-refused as unread}
-use Rattle.trace.specs.Locations.{Outcome, Done, done, answerOf, traced, tracedOf}
+use Rattle.trace.specs.Locations.{answerOf, traced, tracedOf}
 use Rattle.trace.specs.declared.location.Answer.the-variants as told
 use Rattle.trace.specs.declared.location.Traced.{Traced}
+use Rattle.trace.proofs.Locating.{traced-refused, traced-found}
 use Rattle.verdict.specs.Plans.{activityOf}
 use Rattle.event.specs.Written.{Ready, Countable}
 use Rattle.verdict.specs.declared.plan.Level.{Level}
 use Rattle.verdict.specs.declared.plan.Settings.{Settings}
 use Rattle.event.proofs.Entries.{event-refused, event-unsound}
-
-module _ (l : Traced) where
-  pub read-refused : (x : Result Trace) (r : Refusal) → tracedOf l ≡ traced 0 x → l .answer ≡ told.Refused r → x ≡ refused (numberOf r) (placeOf r)
-  read-refused (accepted t) r e h =
-      let a : _≡_ {A = Result Done} (refusal r) (accepted done) = ap answerOf (sym h) ∙ ap (λ (y : Outcome). y .answer) e in
-      absurd (clash (cc))
-  read-refused (refused n p) r e h =
-      let a : _≡_ {A = Result Done} (refusal r) (refused n p) = ap answerOf (sym h) ∙ ap (λ (y : Outcome). y .answer) e in
-      let b : numberOf r ≡ n = cc in
-      let c : placeOf r ≡ p = cc in
-      cc
-
-  pub read-found : (x : Result Trace) → tracedOf l ≡ traced 0 x → l .answer ≡ told.Found
-      → (rows : List Row) × (x ≡ accepted (record { rows = rows; places = l .places; values = l .values }))
-  read-found (accepted t) e h =
-      let p : l .places ≡ t .places = ap (λ (y : Outcome). y .places) e in
-      let v : l .values ≡ t .values = ap (λ (y : Outcome). y .values) e in
-      (t .rows, rw (p, v) refl)
-  read-found (refused n p) e h =
-      let a : _≡_ {A = Result Done} (accepted done) (refused n p) = ap answerOf (sym h) ∙ ap (λ (y : Outcome). y .answer) e in
-      absurd (clash (cc))
 
 -- only 10 says that a reply is owed, and Read never refuses with it
 not-owed : (r : Refusal) → (numberOf r ≡ 10 → ⊥) → owed r ≡ false
@@ -73,16 +51,16 @@ module _ (sheet buf : List ℕ) (len : ℕ) (l : Traced) (e : tracedOf l ≡ tra
         → record { answer = denied (numberOf r) (placeOf r) (owed r); next = record { buf = buf; len = len; report = report } }
         ≡ event tm (record { buf = buf; len = len; report = report }) happened
     unread-event report happened =
-        let u = read-refused l (readTrace tm buf len) r e h in
+        let u = traced-refused 0 (readTrace tm buf len) (tracedOf l) (numberOf r) (placeOf r) e (ap answerOf h) in
         let o : owed r ≡ false = not-owed r (unread tm buf len (numberOf r) (placeOf r) u .number) in
         rw o (sym (event-refused tm (record { buf = buf; len = len; report = report }) happened (numberOf r) (placeOf r) u))
 
   module _ (h : l .answer ≡ told.Found) where
     abbrev t : Trace
-    t = record { rows = read-found l (readTrace tm buf len) e h .0; places = l .places; values = l .values }
+    t = record { rows = traced-found 0 (readTrace tm buf len) (tracedOf l) e (ap answerOf h) .0; places = l .places; values = l .values }
 
     read : readTrace tm buf len ≡ accepted t
-    read = read-found l (readTrace tm buf len) e h .1
+    read = traced-found 0 (readTrace tm buf len) (tracedOf l) e (ap answerOf h) .1
 
     -- a discontinuity
     pub is-countable : Countable buf len (l .places) (l .values)

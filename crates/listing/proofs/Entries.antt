@@ -1,11 +1,11 @@
 -- The entries, over plain lists and numbers.
 use mathlib.Core.Path.{_≡_, refl, sym, ap, _∙_, subst}
-use mathlib.Core.List.{List, _++_}
-use Prim.Native.Nat.{ℕ, _+_, _≤_, _<_}
+use mathlib.Core.List.{List}
+use Prim.Native.Nat.{ℕ, _≤_, _<_}
 use native.Mathlib.Nat.{zero-add}
 use native.Mathlib.Omega.{arith}
-use lib.ListN.{length, take, drop, length-append}
-use lib.Seq.{length-take-le, take-at}
+use lib.ListN.{length, take}
+use lib.Seq.{length-take-le}
 use Rattle.meaning.specs.Bytes.{Part, splice, whole}
 use Rattle.meaning.specs.Answer.{Result, accepted, refused, andThen}
 use Rattle.meaning.specs.Structure.{Row}
@@ -16,10 +16,12 @@ use Rattle.meaning.proofs.Scans.{Sized}
 use Rattle.meaning.proofs.Sound.{SoundRows, sound-scan, rows-of}
 use Rattle.meaning.proofs.Outcomes.{scan-refused, check-accepted, check-refused}
 use Rattle.text.specs.Wrote.{Wrote}
+use Rattle.text.specs.Prints.{Prints}
+use Rattle.text.proofs.Printed.{prints}
 use Rattle.refusals.specs.Refusals.{numberOf, placeOf, refusal}
 use Rattle.refusals.specs.declared.Refusal.{Refusal}
 use Rattle.listing.specs.Text.{textOf, Checked}
-use Rattle.listing.specs.Entries.{filled, Lists, Prints}
+use Rattle.listing.specs.Entries.{filled, Lists}
 use Rattle.listing.specs.declared.Listed.the-variants.{Text, Refused}
 
 -- the message as a slice of its own
@@ -73,25 +75,10 @@ list-refused buf len r out e =
     let s = check-refused buf len (numberOf r) (placeOf r) e in
     record { answer = rw s refl; bytes = rw s refl }
 
--- PRINT.
-prints : (input before after : List ℕ) (r : ℕ) → Wrote before 0 (listing input (length input)) after r → Prints input before after r
-unfolding splice
-prints input before after r w =
-    let t : List ℕ = listing input (length input) in
-    let n : r ≡ length t = w .place ∙ zero-add _ in
-    let s : after ≡ t ++ drop (0 + length t) before = w .bytes in
-    let l : r ≤ length after = omega (arith, ap length s, length-append t (drop (0 + length t) before)) in
-    record {
-      wrote = w;
-      text = ap (take r) s ∙ take-at t (drop (0 + length t) before) r (sym n);
-      within = l;
-      counted = sym (length-take-le r after l);
-    }
-
 -- what `list` leaves is what is printed, where it gives a text
-pub print-listed : (input before after : List ℕ) (n : ℕ) → Lists input (length input) before after (Text n) → Prints input before after n
+pub print-listed : (input before after : List ℕ) (n : ℕ) → Lists input (length input) before after (Text n) → Prints (listing input (length input)) before after n
 unfolding listing
-print-listed input before after n l = prints input before after n (go (scan input (length input)) (l .answer) (l .bytes))
+print-listed input before after n l = prints (go (scan input (length input)) (l .answer) (l .bytes))
   where
     go : (x : Result (List Row)) → _≡_ {A = Result ℕ} (accepted n) (andThen x (λ rows. accepted (length (listingText (partOf input (length input)) (length input) rows))))
         → after ≡ filled before input (length input) x → Wrote before 0 (printed input (length input) x) after n
@@ -114,8 +101,8 @@ module _ (input before middle : List ℕ) (r : Refusal) (l : Lists input (length
   pub refused-place : placeOf r < 4294967296
   refused-place = omega (arith, scan-refused input (length input) (numberOf r) (placeOf r) (its-refusal .0) .place)
 
-  pub print-refused : (after : List ℕ) (n : ℕ) → Wrote middle 0 (refusalLine (numberOf r) (placeOf r)) after n → Prints input before after n
+  pub print-refused : (after : List ℕ) (n : ℕ) → Wrote middle 0 (refusalLine (numberOf r) (placeOf r)) after n → Prints (listing input (length input)) before after n
   unfolding listing
   print-refused after n w =
-      prints input before after n
+      prints
       (rw (its-refusal .0) (subst (λ (x : List ℕ). Wrote x 0 (refusalLine (numberOf r) (placeOf r)) after n) (its-refusal .1) w))

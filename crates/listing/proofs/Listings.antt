@@ -4,6 +4,7 @@ use mathlib.Core.List.{List, _++_}
 use Prim.Native.Nat.{ℕ, _≤_}
 use native.Mathlib.Omega.{arith}
 use lib.ListN.{length}
+use Rattle.text.proofs.Printed.{wrote-as, room-as}
 use Rattle.meaning.specs.Bytes.{number, whole}
 use Rattle.meaning.specs.Walk.{walked, walk}
 use Rattle.meaning.specs.Message.{rowsOf}
@@ -18,7 +19,7 @@ use Rattle.text.proofs.Laws.{front, behind, then}
 use Rattle.listing.specs.Rows.{Due, Done}
 use Rattle.listing.specs.Text.{textOf, Checked}
 use Rattle.listing.specs.declared.rows.Behind.{Behind}
-use Rattle.listing.proofs.Turns.{done-as, wrote-as, room-as}
+use Rattle.listing.proofs.Turns.{done-as}
 
 -- the header's numbers as the code has read them: type a, command b, count k
 module _ (s : List ℕ) (count : ℕ) (out : List ℕ) (u : Checked s count) (big : 131072 ≤ length out) (a b k : ℕ) (ea : a ≡ number s 0) (eb : b ≡ number s 12)

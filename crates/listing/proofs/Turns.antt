@@ -11,6 +11,7 @@ use Rattle.meaning.specs.Listing.{rowLines}
 use Rattle.meaning.proofs.Fuel.{walk-zero}
 use Rattle.meaning.proofs.Splices.{splice-none}
 use Rattle.meaning.proofs.Lines.{rowLines-none}
+use Rattle.text.proofs.Printed.{wrote-as, room-as}
 use Rattle.text.specs.Wrote.{Room, Wrote}
 use Rattle.text.specs.Lines.{lineText}
 use Rattle.text.specs.declared.Line.{Line}
@@ -22,13 +23,6 @@ use Rattle.listing.proofs.Walked.{Split, split, Opened, opened}
 -- another name for the walk
 pub done-as : {w w′ : Result Walked} {out : List ℕ} {at : ℕ} {t : List ℕ} {r : Behind} → w ≡ w′ → Done w out at t r → Done w′ out at t r
 done-as {w} {w′} {out} {at} {t} {r} e x = subst (λ (v : Result Walked). Done v out at t r) e x
-
--- the same text and the same room, written another way
-pub wrote-as : {d : List ℕ} {at : ℕ} {xs ys t : List ℕ} {n : ℕ} → xs ≡ ys → Wrote d at xs t n → Wrote d at ys t n
-wrote-as {d} {at} {xs} {ys} {t} {n} e x = subst (λ (v : List ℕ). Wrote d at v t n) e x
-
-pub room-as : {d : List ℕ} {at : ℕ} {xs ys : List ℕ} → xs ≡ ys → Room d at xs → Room d at ys
-room-as {d} {at} e x = subst (λ (v : List ℕ). Room d at v) e x
 
 -- no text
 wrote-none : (d : List ℕ) (at : ℕ) → Wrote d at [] d at

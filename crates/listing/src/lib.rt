@@ -8,10 +8,12 @@ use refusals::Refusal;
 use text::put_refusal;
 use whole::put_listing;
 ghost use Prim.Native.Nat.{_<_};
-ghost use Rattle.meaning.specs.Listing.{refusalLine};
+ghost use lib.ListN.{length};
+ghost use Rattle.meaning.specs.Listing.{refusalLine, listing as listingOf};
 ghost use Rattle.refusals.specs.Refusals.{numberOf, placeOf};
+ghost use Rattle.text.specs.Prints.{Prints};
 ghost use Rattle.text.specs.Wrote.{Wrote};
-ghost use Rattle.listing.specs.Entries.{Lists, Prints};
+ghost use Rattle.listing.specs.Entries.{Lists};
 
 // What `list` answers: the text's length, or 1 to 5.
 pub enum Listed {
@@ -32,7 +34,7 @@ pub fn list(msg: &[u8], len: usize, out: &mut [u8; 131072]) -> Listed
 }
 
 // The line of a refusal, from the buffer's first byte on.
-fn refused_line(r: Refusal, out: &mut [u8; 131072]) -> usize
+pub fn refused_line(r: Refusal, out: &mut [u8; 131072]) -> usize
     requires { ⌜ placeOf r < 4294967296 ⌝ }
     ensures { λ n. ⌜ Wrote (now (out .entry)) 0 (refusalLine (numberOf r) (placeOf r)) (now (out .exit)) n ⌝ }
 {
@@ -41,7 +43,7 @@ fn refused_line(r: Refusal, out: &mut [u8; 131072]) -> usize
 
 // PRINT: all that the listing program writes for an input. The answer is the text's length.
 pub fn print(input: &[u8], out: &mut [u8; 131072]) -> usize
-    ensures { λ r. ⌜ Prints (now (input .entry)) (now (out .entry)) (now (out .exit)) r ⌝ }
+    ensures { λ r. ⌜ Prints (listingOf (now (input .entry)) (length (now (input .entry)))) (now (out .entry)) (now (out .exit)) r ⌝ }
 {
     let listed = list(input, input.len(), out);
     match listed {

@@ -1,4 +1,6 @@
 // The listing program on a composed message whose last structure has a wrong length.
 fn main() {
-    lister::run();
+    let mut input = [0u8; 65537];
+    let mut out = [0u8; 131072];
+    lister::run(&mut input, &mut out);
 }

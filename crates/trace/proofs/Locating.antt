@@ -26,7 +26,7 @@ use Rattle.pcf.proofs.Openings.{scan-opened, opened-sized}
 use Rattle.header.specs.Headers.{fieldsOf, startsWith}
 use Rattle.trace.specs.Passing.{isSound}
 use Rattle.trace.specs.Groups.{groupOf, counted, Surveyed, surveyed}
-use Rattle.trace.specs.Locations.{Begun, Within, stop, found, attributesBy, attributesIn, judgedIn, traced}
+use Rattle.trace.specs.Locations.{Begun, Within, stop, found, attributesBy, attributesIn, judgedIn, Done, done, Outcome, traced}
 use Rattle.trace.specs.declared.groups.Group.{Group}
 use Rattle.trace.specs.declared.groups.Counted.{Counted}
 use Rattle.header.specs.declared.Kind.the-variants.{Trace as trace}
@@ -267,3 +267,22 @@ module _ {sheet buf : List ℕ} {len n count : ℕ} {s : Surveyed} (g : Gone she
             known = record { there = z .there; most = z .most; sound = ap isSound (nth-walk (partOf buf len) 36 count (t .rows) tree «MQGACF_TRACE_ROUTE» 0 first) };
             behind = omega (arith, nth-behind (partOf buf len) 36 count (t .rows) tree «MQGACF_TRACE_ROUTE» 0 first);
           })
+
+-- WHAT THE ANSWER TELLS of what Read gives
+pub traced-refused : (n : ℕ) (x : Result Trace) (o : Outcome) (k p : ℕ) → o ≡ traced n x → o .answer ≡ refused k p → x ≡ refused k p
+traced-refused n (accepted t) o k p h f =
+    let e : _≡_ {A = Result Done} (accepted done) (refused k p) = sym (ap (λ (y : Outcome). y .answer) h) ∙ f in
+    absurd (clash (cc))
+traced-refused n (refused k′ p′) o k p h f =
+    let e : _≡_ {A = Result Done} (refused k′ p′) (refused k p) = sym (ap (λ (y : Outcome). y .answer) h) ∙ f in
+    cc
+
+pub traced-found : (n : ℕ) (x : Result Trace) (o : Outcome) → o ≡ traced n x → o .answer ≡ accepted done
+    → (rows : List Row) × (x ≡ accepted (record { rows = rows; places = o .places; values = o .values }))
+traced-found n (accepted t) o h f =
+    let p : o .places ≡ t .places = ap (λ (y : Outcome). y .places) h in
+    let v : o .values ≡ t .values = ap (λ (y : Outcome). y .values) h in
+    (t .rows, rw (p, v) refl)
+traced-found n (refused k p) o h f =
+    let e : _≡_ {A = Result Done} (refused k p) (accepted done) = sym (ap (λ (y : Outcome). y .answer) h) ∙ f in
+    absurd (clash (cc))

@@ -1,8 +1,8 @@
 -- `refused_line` meets its contract.
 use native.Mathlib.Omega.{arith}
 use borrow.Author.Needs.{needs}
+use Rattle.text.proofs.Printed.{wrote-as}
 use Rattle.meaning.proofs.Lines.{refusalLine-most}
-use Rattle.listing.proofs.Turns.{wrote-as}
 use Rattle.listing.proofs.refused_line.Statement.{statement}
 use Rattle.listing.proofs.refused_line.Tie as tie
 

@@ -1,0 +1,38 @@
+-- `put_groups` meets its contract. The loop's invariant: the lines of the Activity groups before the k-th structure are
+-- written, and those before it and from it on are the structures of the trace.
+use Prim.Native.Nat.{_-_, _≤_}
+use mathlib.Core.Path.{_≡_}
+use native.Mathlib.Omega.{arith}
+use borrow.Author.Needs.{needs}
+use Rattle.meaning.specs.Bytes.{number}
+use Rattle.attributes.specs.Terms.{termsOf}
+use Rattle.hops.proofs.Loops.{Written, header-there, begun, same-room, ready, again, finished}
+use Rattle.hops.proofs.groups.put_groups.Statement.{statement}
+use Rattle.hops.proofs.groups.put_groups.Tie as tie
+
+abbrev Inv-loop : tie.InvT-loop
+Inv-loop msg sheet id out₀ count groups₀ k₀ out groups k = (count ≡ number msg 32) × (k ≤ count) × (Written (termsOf sheet) msg id out₀ out groups k)
+
+abbrev μ-loop : tie.MeasureT-loop
+μ-loop msg sheet id out₀ count groups₀ k₀ out groups k = count - k
+
+put-top-requires : tie.Need-put-top-requires Inv-loop μ-loop
+put-top-requires c κs = ready _ _ _ _ _ _ _ (c .before .before .loop .inv .2) (omega arith)
+
+loop-again : tie.Need-loop-again Inv-loop μ-loop
+loop-again c = (search needs, omega arith, again _ _ _ _ _ _ _ (c .before .before .before .before .before .loop .inv .2) (omega arith) _ _ (c .before .before .put-top .ensures))
+
+pub put-groups-spec : {M : Type 1} → statement M
+put-groups-spec =
+    tie.close
+    (tie.spec
+    Inv-loop
+    μ-loop
+    (λ c κs. header-there _ _ (c .before .before .args .id) _ (c .before .before .pre))
+    (λ c. (c .number-at .ensures, omega arith, begun _ _ _ _ (c .before .before .before .pre)))
+    put-top-requires
+    (λ c. omega arith)
+    (λ c. omega arith)
+    loop-again
+    (λ c. same-room _ _ _ _ _ _ _ (c .before .loop .inv .2))
+    (λ c. finished _ _ _ _ _ _ _ (c .before .loop .inv .2) (omega arith)))

@@ -1,0 +1,6 @@
+// The hops program on names with unprintable bytes, blank and empty names, and groups without a name.
+fn main() {
+    let mut input = [0u8; 65537];
+    let mut out = [0u8; 131072];
+    lister::run_hops(&mut input, &mut out);
+}
