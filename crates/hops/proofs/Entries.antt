@@ -6,7 +6,7 @@ use native.Mathlib.Omega.{arith}
 use lib.ListN.{length, length-append}
 use Rattle.meaning.specs.Answer.{Result, accepted, refused}
 use Rattle.meaning.specs.Trace.{Terms, Trace, activities, readTrace}
-use Rattle.meaning.specs.Listing.{newline, column, endLine, refusalLine}
+use Rattle.meaning.specs.Listing.{newline, endLine, refusalLine}
 use Rattle.meaning.proofs.Tests.{clash}
 use Rattle.meaning.proofs.Decimals.{column-ten}
 use Rattle.meaning.proofs.Outcomes.{read-refused}

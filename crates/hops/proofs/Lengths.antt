@@ -1,11 +1,11 @@
 -- How long a line is: a name is no longer than what is inside its group, so that a line has no more than twice as many bytes
 -- as the group, and the text of a message fits into 131,072 bytes.
-use mathlib.Core.Path.{_≡_, refl, sym, ap, _∙_}
+use mathlib.Core.Path.{_≡_, refl, ap, _∙_}
 use mathlib.Core.Bool.{Bool, true, false}
-use mathlib.Core.List.{List, [], _∷_, _++_}
-use Prim.Native.Nat.{ℕ, _+_, _*_, _≤_, _<_}
+use mathlib.Core.List.{List, [], _∷_}
+use Prim.Native.Nat.{ℕ, _+_, _≤_, _<_}
 use native.Mathlib.Omega.{arith}
-use lib.ListN.{length, take, drop, length-append, length-take, length-drop}
+use lib.ListN.{length, drop, length-append, length-take}
 use lib.Dec.{eqb}
 use borrow.Author.Tests.{eqb-true}
 use Rattle.meaning.specs.Bytes.{Part, num}
@@ -15,13 +15,13 @@ use Rattle.meaning.specs.Structure.{Row, structureAt}
 use Rattle.meaning.specs.Message.{partOf}
 use Rattle.meaning.specs.Trace.{directIn, named}
 use Rattle.meaning.specs.Activity.{Span, bytesIn, sizeOf, strings, stringAt, firstName, trimmed}
-use Rattle.meaning.specs.Listing.{blank, newline, column}
+use Rattle.meaning.specs.Listing.{blank}
 use Rattle.meaning.proofs.Structures.{Match, row-at, structure-match}
-use Rattle.meaning.proofs.Walks.{Walks, none, more, In, here, there, in-nil, in-cases}
+use Rattle.meaning.proofs.Walks.{Walks, none, more, here, there, in-nil, in-cases}
 use Rattle.meaning.proofs.Strings.{string-data, trim-le}
 use Rattle.meaning.proofs.Decimals.{decimal-most, column-ten, length-column}
 use Rattle.trace.proofs.Marking.{Every, every-named, every-direct}
-use Rattle.hops.specs.Hops.{shown, noName, nameBytes, hopLine}
+use Rattle.hops.specs.Hops.{noName, nameBytes, hopLine}
 use Rattle.hops.proofs.Names.{length-shown}
 
 -- THE DATA of a string are shorter than the string

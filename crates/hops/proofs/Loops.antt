@@ -1,21 +1,19 @@
 -- The loop over the top-level structures: the lines of the Activity groups before the k-th one are written.
-use mathlib.Core.Path.{_≡_, refl, sym, ap, _∙_, subst}
+use mathlib.Core.Path.{_≡_, refl, sym, ap, _∙_}
 use mathlib.Core.List.{List, [], _++_}
-use Prim.Native.Nat.{ℕ, suc, _+_, _≤_, _<_}
-use native.Mathlib.Nat.{zero-add}
+use Prim.Native.Nat.{ℕ, _+_, _≤_, _<_}
 use native.Mathlib.Numerals.{add-one}
 use native.Mathlib.Omega.{arith}
 use lib.ListN.{length, length-append}
 use Rattle.meaning.specs.Bytes.{number}
-use Rattle.meaning.specs.Answer.{Result}
-use Rattle.meaning.specs.Trace.{Terms, Trace, readTrace}
+use Rattle.meaning.specs.Trace.{Terms}
 use Rattle.meaning.proofs.Splices.{splice-none}
 use Rattle.meaning.proofs.Sound.{sound}
 use Rattle.text.specs.Wrote.{Room, Wrote}
 use Rattle.text.proofs.Laws.{then}
 use Rattle.reader.specs.Reading.{nthTop}
 use Rattle.hops.specs.Hops.{hopOf, hopLines}
-use Rattle.hops.specs.Groups.{spotIn, Reached, Ready, Added, Due, groupsOf, Done}
+use Rattle.hops.specs.Groups.{spotIn, Ready, Added, Due, groupsOf, Done}
 use Rattle.hops.specs.declared.groups.Spot.{Spot}
 use Rattle.hops.specs.declared.groups.Spot.the-variants.{Activity, Other}
 use Rattle.hops.specs.declared.groups.Groups.{Groups}

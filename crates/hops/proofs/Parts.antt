@@ -3,7 +3,7 @@ use mathlib.Core.Path.{_≡_, ap, _∙_}
 use mathlib.Core.List.{List}
 use Prim.Native.Nat.{ℕ, _+_, _≤_}
 use native.Mathlib.Omega.{arith}
-use lib.ListN.{length, take, drop, length-take, length-drop}
+use lib.ListN.{length, drop, length-take, length-drop}
 use denote.Ref.{RefT}
 use Rattle.meaning.specs.Trace.{Terms}
 use Rattle.meaning.specs.Activity.{Span, bytesIn, activityGroup, Name, inMessage, substitute, nameOf}

@@ -2,15 +2,14 @@
 use mathlib.Core.Path.{_≡_, refl, sym, ap, _∙_, subst}
 use mathlib.Core.Bool.{Bool, true, false}
 use mathlib.Core.List.{List, [], _∷_, _++_, append-assoc, append-nil}
-use Prim.Native.Nat.{ℕ, suc, _+_, _-_, _*_, _≤_, _<_}
-use native.Mathlib.Numerals.{add-one}
+use Prim.Native.Nat.{ℕ, _+_, _-_, _*_, _≤_, _<_}
 use native.Mathlib.Omega.{arith}
 use lib.ListN.{length, getD, length-append}
 use lib.Seq.{getD-append-seam}
 use borrow.Author.Tests.{eq-eqb}
 use Rattle.meaning.specs.Bytes.{Part, number}
 use Rattle.meaning.specs.Names.{«MQGACF_ACTIVITY»}
-use Rattle.meaning.specs.Answer.{Result, accepted, refused, when, consIf}
+use Rattle.meaning.specs.Answer.{Result, accepted, when, consIf}
 use Rattle.meaning.specs.Structure.{Row, structureAt}
 use Rattle.meaning.specs.Message.{partOf, parameterCount, step}
 use Rattle.meaning.specs.Trace.{Terms, Trace, Top, isTop, isGroup, groupsIn, groups, tops, activities, named, directIn, readTrace}
@@ -27,7 +26,6 @@ use Rattle.meaning.proofs.Sound.{Sound, sound, length-ok}
 use Rattle.reader.specs.Reading.{nthTop}
 use Rattle.hops.specs.Hops.{noName, nameBytes, hopOf}
 use Rattle.hops.specs.Groups.{spotIn}
-use Rattle.hops.specs.declared.groups.Spot.{Spot}
 use Rattle.hops.specs.declared.groups.Spot.the-variants.{Activity, Other}
 use Rattle.hops.proofs.Lengths.{name-short, line-most}
 

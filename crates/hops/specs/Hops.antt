@@ -6,7 +6,7 @@ use lib.ListN.{length}
 use lib.Dec.{leb}
 use Rattle.meaning.specs.Answer.{Result, accepted, refused}
 use Rattle.meaning.specs.Trace.{Terms, Trace, activities, readTrace}
-use Rattle.meaning.specs.Activity.{Span, bytesIn, activityGroup, Name, inMessage, substitute, nameOf}
+use Rattle.meaning.specs.Activity.{bytesIn, activityGroup, Name, inMessage, substitute, nameOf}
 use Rattle.meaning.specs.Listing.{ascii, blank, newline, column, endLine, refusalLine}
 
 -- what is written for a byte of a name: a printable one is itself, every other one is a dot

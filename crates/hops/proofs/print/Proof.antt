@@ -1,5 +1,5 @@
 -- `print` meets its contract, for every input, sheet and identifier.
-use mathlib.Core.Path.{_≡_, sym, ap, _∙_}
+use mathlib.Core.Path.{ap}
 use native.Mathlib.Omega.{arith}
 use borrow.Author.Needs.{needs}
 use Rattle.trace.specs.Locations.{answerOf}

@@ -4,7 +4,6 @@ use Prim.Native.Nat.{_-_, _≤_}
 use mathlib.Core.Path.{_≡_}
 use native.Mathlib.Omega.{arith}
 use borrow.Author.Needs.{needs}
-use lib.ListN.{length}
 use Rattle.meaning.specs.Bytes.{number}
 use Rattle.attributes.specs.Terms.{termsOf}
 use Rattle.hops.proofs.Loops.{Written, header-there, begun, same-room, ready, again, finished}

@@ -1,9 +1,7 @@
 -- `put_top` meets its contract.
-use mathlib.Core.Path.{_≡_, refl, sym, _∙_}
+use mathlib.Core.Path.{refl, sym, _∙_}
 use native.Mathlib.Omega.{arith}
 use borrow.Author.Needs.{needs}
-use Rattle.attributes.specs.Terms.{termsOf}
-use Rattle.hops.specs.Groups.{Reached}
 use Rattle.hops.proofs.Spots.{adds-nothing, adds-line}
 use Rattle.hops.proofs.groups.put_top.Statement.{statement}
 use Rattle.hops.proofs.groups.put_top.Tie as tie

@@ -1,7 +1,6 @@
 -- `put` is safe and ends.
 use Prim.Native.Nat.{_-_, _≤_}
 use lib.ListN.{length}
-use native.Mathlib.Omega.{arith}
 use borrow.Author.Needs.{needs}
 use Rattle.part_checks.proofs.messages.put.Statement.{statement}
 use Rattle.part_checks.proofs.messages.put.Tie as tie

@@ -1,6 +1,5 @@
 -- `show_all` is safe and ends.
 use Prim.Native.Nat.{_≤_}
-use native.Mathlib.Omega.{arith}
 use borrow.Author.Needs.{needs}
 use Rattle.part_checks.proofs.places.show_all.Statement.{statement}
 use Rattle.part_checks.proofs.places.show_all.Tie as tie
