@@ -1,2 +1,2 @@
 mod Parts
-mod Namings
+pub mod Namings

@@ -96,7 +96,7 @@ module _ {s : List ℕ} {len p : ℕ} {r : Row} {q kind parameter : ℕ} (o : Me
         go (refused k x) = refl
 
 -- A STRING that was found: its data lie in the message
-every-string : (P : Row → Type 0) (rows : List Row) → Every P rows → Every (λ r. P r × (r .kind ≡ «MQCFT_STRING»)) (strings rows)
+pub every-string : (P : Row → Type 0) (rows : List Row) → Every P rows → Every (λ r. P r × (r .kind ≡ «MQCFT_STRING»)) (strings rows)
 unfolding strings
 every-string P [] h = λ r i. absurd (in-nil i)
 every-string P (x ∷ xs) h = go (eqb (x .kind) «MQCFT_STRING») refl (every-string P xs (λ r i. h r (there i)))

@@ -1,16 +1,13 @@
 -- How long a line is: a name is no longer than what is inside its group, so that a line has no more than twice as many bytes
 -- as the group, and the text of a message fits into 131,072 bytes.
-use mathlib.Core.Path.{_≡_, refl, ap, _∙_}
-use mathlib.Core.Bool.{Bool, true, false}
+use mathlib.Core.Path.{_≡_, refl, ap}
 use mathlib.Core.List.{List, [], _∷_}
 use Prim.Native.Nat.{ℕ, _+_, _≤_, _<_}
 use native.Mathlib.Omega.{arith}
 use lib.ListN.{length, drop, length-append, length-take}
-use lib.Dec.{eqb}
-use borrow.Author.Tests.{eqb-true}
 use Rattle.meaning.specs.Bytes.{Part, num}
 use Rattle.meaning.specs.Names.{«MQCFT_STRING»}
-use Rattle.meaning.specs.Answer.{accepted, consIf}
+use Rattle.meaning.specs.Answer.{accepted}
 use Rattle.meaning.specs.Structure.{Row, structureAt}
 use Rattle.meaning.specs.Message.{partOf}
 use Rattle.meaning.specs.Trace.{directIn, named}
@@ -21,6 +18,7 @@ use Rattle.meaning.proofs.Walks.{Walks, none, more, here, there, in-nil, in-cas
 use Rattle.meaning.proofs.Strings.{string-data, trim-le}
 use Rattle.meaning.proofs.Decimals.{decimal-most, column-ten, length-column}
 use Rattle.trace.proofs.Marking.{Every, every-named, every-direct}
+use Rattle.activities.proofs.Namings.{every-string}
 use Rattle.hops.specs.Hops.{noName, nameBytes, hopLine}
 use Rattle.hops.proofs.Names.{length-shown}
 
@@ -46,17 +44,6 @@ row-size : (rows : List Row) → Every (λ r. r .size ≤ sizeOf rows) rows
 unfolding sizeOf
 row-size (x ∷ xs) r (here e) = let f : r .size ≡ x .size = ap (λ (y : Row). y .size) e in omega arith
 row-size (x ∷ xs) r (there i) = omega (arith, row-size xs r i)
-
-every-string : (P : Row → Type 0) (rows : List Row) → Every P rows → Every (λ r. P r × (r .kind ≡ «MQCFT_STRING»)) (strings rows)
-unfolding strings
-every-string P [] h = λ r i. absurd (in-nil i)
-every-string P (x ∷ xs) h = go (eqb (x .kind) «MQCFT_STRING») refl (every-string P xs (λ r i. h r (there i)))
-  where
-    go : (b : Bool) → eqb (x .kind) «MQCFT_STRING» ≡ b → Every (λ r. P r × (r .kind ≡ «MQCFT_STRING»)) (strings xs)
-        → Every (λ r. P r × (r .kind ≡ «MQCFT_STRING»)) (consIf b x (strings xs))
-    go true e ih r (here f) = (h r (here f), ap (λ (y : Row). y .kind) f ∙ eqb-true (x .kind) «MQCFT_STRING» e)
-    go true e ih r (there i) = ih r i
-    go false e ih r i = ih r i
 
 part-most : (buf : List ℕ) (s : Span) → length (bytesIn buf s) ≤ s .length
 part-most buf s = rw (length-take (s .length) (drop (s .place) buf)) (omega arith)
