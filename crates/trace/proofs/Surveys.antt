@@ -116,6 +116,11 @@ count-le id n c r q = go (eqb (r .kind) «MQCFT_GROUP» && eqb (r .parameter) id
     go true = omega arith
     go false = omega arith
 
+-- a structure that is no group counts for nothing
+count-other : (id n : ℕ) (c : Counted) (r : Row) (q : ℕ) → ¬ (r .kind ≡ «MQCFT_GROUP») → countRow id n c r q ≡ c
+unfolding countRow
+count-other id n c r q h = rw (ne-eqb _ _ h) refl
+
 module _ (m : Part) (p left n : ℕ) (a b : Counted) (due : 0 < left) where
   pub survey-halt : (k q : ℕ) → crossed m p 1 ≡ refused k q → surveyFrom n a b (walk m p 1 left) ≡ record { ended = refused k q; routes = noneYet; activities = noneYet }
   survey-halt k q e = rw (walk-halt m p 1 left due k q e) refl
@@ -150,3 +155,6 @@ module _ (m : Part) (p left n : ℕ) (a b : Counted) (due : 0 < left) where
             → surveyFrom n a b (andThen w (λ y. walked (r ∷ (o .inside ++ y .rows)) (y .next))) ≡ surveyFrom n (countRow «MQGACF_TRACE_ROUTE» 0 a r q) (countRow «MQGACF_ACTIVITY» n b r q) w
         go (accepted y) e = rw (next-tops y e, one-more «MQGACF_TRACE_ROUTE» 0 a (y .rows), one-more «MQGACF_ACTIVITY» n b (y .rows)) refl
         go (refused k x) e = refl
+
+    pub survey-other : ¬ (r .kind ≡ «MQCFT_GROUP») → surveyFrom n a b (walk m p 1 left) ≡ surveyFrom n a b (walk m q 1 (left - 1))
+    survey-other h = survey-next ∙ rw (count-other «MQGACF_TRACE_ROUTE» 0 a r q h, count-other «MQGACF_ACTIVITY» n b r q h) refl

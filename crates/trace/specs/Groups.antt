@@ -1,4 +1,5 @@
 -- Top-level groups as the code hands them out, in the meaning's terms.
+use mathlib.Core.Path.{_≡_}
 use Prim.Native.Nat.{ℕ, _+_, _-_, _≤_, _<_}
 use mathlib.Core.Bool.{_&&_}
 use mathlib.Core.List.{List}
@@ -40,8 +41,9 @@ countRow id n c r q =
     })
     c
 
--- the count does not run over, and the structure ends before q
+-- the structure is a group that ends before q, and the count does not run over
 pub record Countable (c : Counted) (r : Row) (q : ℕ) : Type 0 where
+  pub a-group : r .kind ≡ «MQCFT_GROUP»
   pub few : c .count < 4294967296
   pub ends : r .place + r .size ≤ q
   pub most : r .place + r .size ≤ 65536

@@ -58,15 +58,11 @@ fn none_yet() -> Counted
     }
 }
 
-// One more structure, which ends before `behind`: it counts if it is a group with the identifier, and is kept if it is the
-// n-th of those.
+// One more group, which ends before `behind`: it counts if it has the identifier, and is kept if it is the n-th of those.
 fn count_row(c: Counted, id: u32, n: usize, row: Row, behind: usize) -> Counted
     requires { ⌜ Countable c (rowOf row) behind ⌝ }
     ensures { λ r. ⌜ r ≡ countRow id n c (rowOf row) behind ⌝ }
 {
-    if row.kind != MQCFT_GROUP {
-        return c;
-    }
     if row.parameter != id {
         return c;
     }
@@ -115,10 +111,13 @@ pub fn survey(msg: &[u8], len: usize, count: u32, n: usize) -> Tops
                 return halted(r);
             }
             Crossing::Over(row, behind) => {
-                let more_routes = count_row(routes, MQGACF_TRACE_ROUTE, 0, row, behind);
-                let more_activities = count_row(activities, MQGACF_ACTIVITY, n, row, behind);
-                routes = more_routes;
-                activities = more_activities;
+                // asked once, out here: what is counted then stays in registers while other structures are gone over
+                if row.kind == MQCFT_GROUP {
+                    let more_routes = count_row(routes, MQGACF_TRACE_ROUTE, 0, row, behind);
+                    let more_activities = count_row(activities, MQGACF_ACTIVITY, n, row, behind);
+                    routes = more_routes;
+                    activities = more_activities;
+                }
                 at = behind;
             }
         }

@@ -1,6 +1,7 @@
 -- `groups::survey` meets its contract. The invariant: what is counted from here on, with what was counted before, is what the
 -- whole walk comes to; and no count is above the structures gone over.
 use mathlib.Core.Path.{_≡_, refl, sym, _∙_}
+use mathlib.Core.Logic.{⊎-elim}
 use Prim.Native.Nat.{_+_, _≤_}
 use native.Mathlib.Omega.{arith}
 use borrow.Author.Needs.{needs}
@@ -10,7 +11,7 @@ use Rattle.meaning.specs.Message.{partOf}
 use Rattle.meaning.proofs.Structures.{row-at}
 use Rattle.trace.specs.Groups.{surveyed}
 use Rattle.trace.proofs.Turns.{is-over, is-stop, over, over-le}
-use Rattle.trace.proofs.Surveys.{surveyFrom, survey-start, survey-end, survey-halt, survey-next, count-le}
+use Rattle.trace.proofs.Surveys.{surveyFrom, survey-start, survey-end, survey-halt, survey-next, survey-other, count-le}
 use Rattle.trace.proofs.groups.survey.Statement.{statement}
 use Rattle.trace.proofs.groups.survey.Tie as tie
 
@@ -31,33 +32,42 @@ loop-holds c =
 
 count-row-requires : tie.Need-count-row-requires Inv-loop μ-loop
 count-row-requires c κs =
-    let o = over _ _ _ _ _ (is-over (c .before .before .before .pass .ensures) (c .before .crossing2 .given .1)) in
+    let o = over _ _ _ _ _ (is-over (c .before .before .before .before .before .pass .ensures) (c .before .before .before .crossing2 .given .1)) in
     let g = row-at _ _ _ _ (o .there) in
-    record { few = omega arith; ends = omega (arith, g .at-place, over-le _ _ _ _ _ o); most = omega (arith, g .at-place, g .at-fits) }
+    record { a-group = c .if1 .taken; few = omega arith; ends = omega (arith, g .at-place, over-le _ _ _ _ _ o); most = omega (arith, g .at-place, g .at-fits) }
 
 count-row-requires-2 : tie.Need-count-row-requires-2 Inv-loop μ-loop
 count-row-requires-2 c κs =
-    let o = over _ _ _ _ _ (is-over (c .before .before .before .before .pass .ensures) (c .before .before .crossing2 .given .1)) in
+    let o = over _ _ _ _ _ (is-over (c .before .before .before .before .before .before .pass .ensures) (c .before .before .before .before .crossing2 .given .1)) in
     let g = row-at _ _ _ _ (o .there) in
-    record { few = omega arith; ends = omega (arith, g .at-place, over-le _ _ _ _ _ o); most = omega (arith, g .at-place, g .at-fits) }
+    record { a-group = c .before .if1 .taken; few = omega (arith, c .before .before .before .before .before .before .before .before .loop .inv .2, c .before .before .before .before .before .before .before .before .before .before .before .before .fits); ends = omega (arith, g .at-place, over-le _ _ _ _ _ o); most = omega (arith, g .at-place, g .at-fits) }
 
 returns : tie.Need-returns Inv-loop μ-loop
 returns c =
     c .halted .ensures ∙ sym (c .before .before .before .before .before .before .loop .inv .0 ∙ survey-halt _ _ _ _ _ _ (c .before .before .before .before .before .loop-test .taken) _ _ (is-stop (c .before .before .before .before .pass .ensures) (c .before .before .crossing .given .1)))
 
+-- after a group, and after any other structure
 loop-again : tie.Need-loop-again Inv-loop μ-loop
 loop-again c =
     let l = c .before .before .before .before .before .before .before in
     let o = over _ _ _ _ _ (is-over (c .before .before .before .before .before .pass .ensures) (c .before .before .before .crossing2 .given .1)) in
-    let e = c .before .count-row .ensures in
-    let f = c .count-row2 .ensures in
     let due = c .before .before .before .before .before .before .loop-test .taken in
-    let a : c .before .count-row .result .count ≤ l .loop .routes .count + 1 = rw e (count-le _ _ _ _ _) in
-    let b : c .count-row2 .result .count ≤ l .loop .activities .count + 1 = rw f (count-le _ _ _ _ _) in (
-      l .loop .inv .0 ∙ survey-next _ _ _ _ _ _ due _ _ o ∙ rw (← e, ← f) refl,
-      omega (arith, due),
-      omega (arith, due),
-    )
+    ⊎-elim
+    (λ w.
+    let e = w .1 .ensures in
+    let f = w .2 .ensures in
+    let a : w .1 .result .count ≤ l .loop .routes .count + 1 = rw e (count-le _ _ _ _ _) in
+    let b : w .2 .result .count ≤ l .loop .activities .count + 1 = rw f (count-le _ _ _ _ _) in (
+      rw (w .3, w .4, w .5) (l .loop .inv .0 ∙ survey-next _ _ _ _ _ _ due _ _ o ∙ rw (← e, ← f) refl),
+      rw (w .4) (omega (arith, due, a, l .loop .inv .1)),
+      rw (w .5) (omega (arith, due, b, l .loop .inv .2)),
+    ))
+    (λ w. (
+      rw (w .1, w .2, w .3) (l .loop .inv .0 ∙ survey-other _ _ _ _ _ _ due _ _ o (w .0 .left)),
+      rw (w .2) (omega (arith, due, l .loop .inv .1)),
+      rw (w .3) (omega (arith, due, l .loop .inv .2)),
+    ))
+    (c .if1 .came)
 
 returns-2 : tie.Need-returns-2 Inv-loop μ-loop
 returns-2 c =
@@ -81,6 +91,6 @@ survey-spec =
     count-row-requires
     count-row-requires-2
     (λ c. omega arith)
-    (λ c. omega arith)
+    (λ c. omega (arith, c .before .before .before .before .before .before .loop-test .taken))
     loop-again
     returns-2)
