@@ -3,9 +3,9 @@
 use std::hint::black_box;
 use std::time::{Duration, Instant};
 
-/// The passes over all rows lie some seconds apart, so that a slow phase of
-/// the machine doesn't hold all rounds of one row.
-pub const PASSES: usize = 6;
+/// The passes over all rows lie two seconds apart, and there are many, so that
+/// a slow phase of the machine doesn't hold all rounds of one row.
+pub const PASSES: usize = 24;
 
 /// Rounds of each row in one pass.
 pub const ROUNDS: usize = 12;
