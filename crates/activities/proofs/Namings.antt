@@ -24,8 +24,8 @@ use Rattle.meaning.proofs.Fuel.{walk-zero}
 use Rattle.meaning.proofs.Sound.{Sound, sound}
 use Rattle.meaning.proofs.Strings.{string-data, walks-data, trim-pad, trim-other, take-last, trim-le}
 use Rattle.trace.specs.Passing.{isSound, Known}
-use Rattle.trace.specs.Groups.{groupOf, counted}
-use Rattle.trace.specs.Locations.{Done, done, Outcome, traced}
+use Rattle.trace.specs.Groups.{wholeGroup, counted}
+use Rattle.trace.specs.Locations.{Located, located, Readout, traced}
 use Rattle.activities.specs.Naming.{firstData, stringIn}
 use Rattle.trace.specs.declared.groups.Group.{Group}
 use Rattle.trace.proofs.Turns.{Over, walk-over}
@@ -150,22 +150,22 @@ module _ (buf : List ℕ) (len : ℕ) where
   name-data (r ∷ rs) s e = (stringAt (partOf buf len) (r .place), refl, cc)
 
 -- a trace that was found, and the Activity group with it
-found-trace : (n : ℕ) (r : Result Trace) (o : Outcome) → o ≡ traced n r → o .answer ≡ accepted done
+found-trace : (n : ℕ) (r : Result Trace) (o : Readout) → o ≡ traced n r → o .answer ≡ accepted located
     → (t : Trace) × (r ≡ accepted t) × (o .activity ≡ counted «MQGACF_ACTIVITY» n (t .rows) .group)
-found-trace n (accepted t) o h f = (t, refl, ap (λ (x : Outcome). x .activity) h)
+found-trace n (accepted t) o h f = (t, refl, ap (λ (x : Readout). x .activity) h)
 found-trace n (refused k p) o h f =
-    let e : _≡_ {A = Result Done} (refused k p) (accepted done) = sym (ap (λ (x : Outcome). x .answer) h) ∙ f in
+    let e : _≡_ {A = Result Located} (refused k p) (accepted located) = sym (ap (λ (x : Readout). x .answer) h) ∙ f in
     absurd (clash (cc))
 
-lost-trace : (n : ℕ) (r : Result Trace) (o : Outcome) (k p : ℕ) → o ≡ traced n r → o .answer ≡ refused k p → r ≡ refused k p
+lost-trace : (n : ℕ) (r : Result Trace) (o : Readout) (k p : ℕ) → o ≡ traced n r → o .answer ≡ refused k p → r ≡ refused k p
 lost-trace n (accepted t) o k p h f =
-    let e : _≡_ {A = Result Done} (accepted done) (refused k p) = sym (ap (λ (x : Outcome). x .answer) h) ∙ f in
+    let e : _≡_ {A = Result Located} (accepted located) (refused k p) = sym (ap (λ (x : Readout). x .answer) h) ∙ f in
     absurd (clash (cc))
 lost-trace n (refused k′ p′) o k p h f =
-    let e : _≡_ {A = Result Done} (refused k′ p′) (refused k p) = sym (ap (λ (x : Outcome). x .answer) h) ∙ f in
+    let e : _≡_ {A = Result Located} (refused k′ p′) (refused k p) = sym (ap (λ (x : Readout). x .answer) h) ∙ f in
     cc
 
-module _ (tm : Terms) (buf : List ℕ) (len n id : ℕ) (o : Outcome) (h : o ≡ traced n (readTrace tm buf len)) where
+module _ (tm : Terms) (buf : List ℕ) (len n id : ℕ) (o : Readout) (h : o ≡ traced n (readTrace tm buf len)) where
   abbrev m : Part
   m = partOf buf len
 
@@ -173,7 +173,7 @@ module _ (tm : Terms) (buf : List ℕ) (len n id : ℕ) (o : Outcome) (h : o ≡
   unfolding nameOf directIn strings named
   name-lost k p f = rw (lost-trace n (readTrace tm buf len) o k p h f) refl
 
-  module _ (f : o .answer ≡ accepted done) where
+  module _ (f : o .answer ≡ accepted located) where
     trace : (t : Trace) × (readTrace tm buf len ≡ accepted t) × (o .activity ≡ counted «MQGACF_ACTIVITY» n (t .rows) .group)
     trace = found-trace n (readTrace tm buf len) o h f
 
@@ -188,7 +188,7 @@ module _ (tm : Terms) (buf : List ℕ) (len n id : ℕ) (o : Outcome) (h : o ≡
 
     -- the walk inside the group goes over the rows that the meaning has inside it
     inside : (q : ℕ) × (walk m (o .activity .inside) 2 (o .activity .members) ≡ walked (top .inside) q)
-    unfolding counted groupOf
+    unfolding counted wholeGroup
     inside =
         subst (λ (g : Group). (q : ℕ) × (walk m (g .inside) 2 (g .members) ≡ walked (top .inside) q)) (sym (trace .2))
         (go (ltb n (length (activities (trace .0 .rows)))) refl)
@@ -238,8 +238,8 @@ module _ (tm : Terms) (buf : List ℕ) (len n id : ℕ) (o : Outcome) (h : o ≡
 pub name-in : (tm : Terms) (buf : List ℕ) (len n id : ℕ) (s : Span) → nameOf tm buf len n id ≡ inMessage s → s .place + s .length ≤ length buf
 name-in tm buf len n id s e = go (traced n (readTrace tm buf len) .answer) refl
   where
-    go : (a : Result Done) → traced n (readTrace tm buf len) .answer ≡ a → s .place + s .length ≤ length buf
-    go (accepted done) f = name-ends tm buf len n id (traced n (readTrace tm buf len)) refl f s e
+    go : (a : Result Located) → traced n (readTrace tm buf len) .answer ≡ a → s .place + s .length ≤ length buf
+    go (accepted located) f = name-ends tm buf len n id (traced n (readTrace tm buf len)) refl f s e
     go (refused k p) f =
         let z : substitute ≡ inMessage s = name-lost tm buf len n id (traced n (readTrace tm buf len)) refl k p f ∙ e in
         absurd (clash (cc))

@@ -13,7 +13,7 @@ use Rattle.meaning.specs.Names.{«MQGACF_ACTIVITY»}
 use Rattle.meaning.specs.Trace.{Terms, Trace, activities, readTrace}
 use Rattle.meaning.specs.Activity.{Span, bytesIn, sizeOf, spanOf, noGroup, nthActivity, activityGroup}
 use Rattle.meaning.proofs.Sound.{sound}
-use Rattle.trace.specs.Groups.{groupOf, counted}
+use Rattle.trace.specs.Groups.{wholeGroup, counted}
 use Rattle.trace.specs.Locations.{traced}
 use Rattle.trace.proofs.Locating.{nth-at}
 use Rattle.activities.specs.Spans.{spanIn}
@@ -21,7 +21,7 @@ use Rattle.activities.specs.declared.group.Span.{Span as Handed}
 
 -- THE ACTIVITY GROUP that goes with the trace
 pub activity-traced : (n : ℕ) (r : Result Trace) → record { place = traced n r .activity .place; length = traced n r .activity .length } ≡ spanOf (nthActivity r n)
-unfolding counted groupOf sizeOf
+unfolding counted wholeGroup sizeOf
 activity-traced n (accepted t) = refl
 activity-traced n (refused k p) = refl
 

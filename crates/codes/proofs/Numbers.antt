@@ -17,7 +17,7 @@ use Rattle.verdict.specs.declared.answer.Done.{Done}
 use Rattle.verdict.specs.declared.answer.Answer.{Answer as Said}
 use Rattle.verdict.specs.declared.answer.Answer.the-variants as answer
 use Rattle.codes.specs.Codes.{code}
-use Rattle.codes.specs.Decisions.{decisionNumber, decided}
+use Rattle.codes.specs.Decisions.{decisionNumber, decidedNumber}
 use Rattle.codes.specs.Events.{levelIn, Tells}
 
 -- a refusal's number is below 32: number and place can be told from the answer
@@ -46,7 +46,7 @@ decision-small Forward = omega arith
 decision-small PutLocally = omega arith
 decision-small Withhold = omega arith
 
-pub decision-code : (n : ℕ) (d : Decided) → n ≡ decisionNumber (decisionOf d) → n * 32 ≡ code (decided (judgedOf (Decides d)))
+pub decision-code : (n : ℕ) (d : Decided) → n ≡ decisionNumber (decisionOf d) → n * 32 ≡ code (decidedNumber (judgedOf (Decides d)))
 decision-code n Forward e = rw e refl
 decision-code n PutLocally e = rw e refl
 decision-code n Withhold e = rw e refl

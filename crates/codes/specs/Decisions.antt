@@ -8,6 +8,6 @@ decisionNumber forward = 1
 decisionNumber putLocally = 2
 decisionNumber withhold = 3
 
-abbrev pub decided : Result Decision → Result ℕ
-decided (accepted d) = accepted (decisionNumber d)
-decided (refused n p) = refused n p
+abbrev pub decidedNumber : Result Decision → Result ℕ
+decidedNumber (accepted d) = accepted (decisionNumber d)
+decidedNumber (refused n p) = refused n p

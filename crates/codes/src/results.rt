@@ -12,7 +12,7 @@ ghost use Rattle.listing.specs.Entries.{listedOf};
 ghost use Rattle.compose.specs.Composes.{composedOf};
 ghost use Rattle.attributes.specs.Decisions.{decisionOf, judgedOf};
 ghost use Rattle.codes.specs.Codes.{code, Fits};
-ghost use Rattle.codes.specs.Decisions.{decisionNumber, decided};
+ghost use Rattle.codes.specs.Decisions.{decisionNumber, decidedNumber};
 
 // The check's answer.
 pub fn checked(found: Checked) -> u64
@@ -60,8 +60,8 @@ fn number_of(decision: Decision) -> usize
 
 // A decision, or the refusal.
 pub fn judged(found: Judged) -> u64
-    requires { ⌜ Fits (decided (judgedOf found)) ⌝ }
-    ensures { λ r. ⌜ r ≡ code (decided (judgedOf found)) ⌝ }
+    requires { ⌜ Fits (decidedNumber (judgedOf found)) ⌝ }
+    ensures { λ r. ⌜ r ≡ code (decidedNumber (judgedOf found)) ⌝ }
 {
     match found {
         Judged::Decided(d) => given(number_of(d)),

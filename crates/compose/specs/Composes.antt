@@ -12,5 +12,5 @@ composedOf (Written n) = accepted n
 composedOf (Refused r) = refusal r
 
 -- the answer, and the buffer after it
-abbrev pub outcome : Composed → List ℕ → Meant
-outcome r buf = record { answer = composedOf r; buffer = buf }
+abbrev pub composedInto : Composed → List ℕ → Meant
+composedInto r buf = record { answer = composedOf r; buffer = buf }

@@ -14,7 +14,7 @@ ghost use Prim.Native.Nat.{_+_, _≤_};
 ghost use lib.ListN.{length};
 ghost use Rattle.meaning.specs.Bytes.{words, splice};
 ghost use Rattle.meaning.specs.Compose.{composed as composedOf, compose as composeOf};
-ghost use Rattle.compose.specs.Composes.{outcome};
+ghost use Rattle.compose.specs.Composes.{composedInto};
 ghost use Rattle.attributes.specs.Terms.{termsOf};
 
 // The length of a composed message.
@@ -53,7 +53,7 @@ fn put_trace(buf: &mut [u8], sheet: [u32; 8], values: [u32; 8])
 
 // COMPOSE: writes the message to the start of the buffer. A refusal changes nothing.
 pub fn compose(sheet: [u32; 8], values: [u32; 8], buf: &mut [u8]) -> Composed
-    ensures { λ r. ⌜ outcome r (now (buf .exit)) ≡ composeOf (termsOf sheet) values (now (buf .entry)) ⌝ }
+    ensures { λ r. ⌜ composedInto r (now (buf .exit)) ≡ composeOf (termsOf sheet) values (now (buf .entry)) ⌝ }
 {
     if !sheet_ok(sheet) {
         return Composed::Refused(Refusal::BadSheet);

@@ -11,7 +11,7 @@ use Rattle.refusals.specs.Refusals.{numberOf, placeOf, owed}
 use Rattle.refusals.specs.declared.Refusal.{Refusal}
 use Rattle.refusals.specs.declared.Refusal.the-variants as refusals
 use Rattle.meaning.proofs.Outcomes.{read-refused as unread}
-use Rattle.trace.specs.Locations.{answerOf, traced, tracedOf}
+use Rattle.trace.specs.Locations.{locatedOf, traced, tracedOf}
 use Rattle.trace.specs.declared.location.Answer.the-variants as told
 use Rattle.trace.specs.declared.location.Traced.{Traced}
 use Rattle.trace.proofs.Locating.{traced-refused, traced-found}
@@ -51,16 +51,16 @@ module _ (sheet buf : List ℕ) (len : ℕ) (l : Traced) (e : tracedOf l ≡ tra
         → record { answer = denied (numberOf r) (placeOf r) (owed r); next = record { buf = buf; len = len; report = report } }
         ≡ event tm (record { buf = buf; len = len; report = report }) happened
     unread-event report happened =
-        let u = traced-refused 0 (readTrace tm buf len) (tracedOf l) (numberOf r) (placeOf r) e (ap answerOf h) in
+        let u = traced-refused 0 (readTrace tm buf len) (tracedOf l) (numberOf r) (placeOf r) e (ap locatedOf h) in
         let o : owed r ≡ false = not-owed r (unread tm buf len (numberOf r) (placeOf r) u .number) in
         rw o (sym (event-refused tm (record { buf = buf; len = len; report = report }) happened (numberOf r) (placeOf r) u))
 
   module _ (h : l .answer ≡ told.Found) where
     abbrev t : Trace
-    t = record { rows = traced-found 0 (readTrace tm buf len) (tracedOf l) e (ap answerOf h) .0; places = l .places; values = l .values }
+    t = record { rows = traced-found 0 (readTrace tm buf len) (tracedOf l) e (ap locatedOf h) .0; places = l .places; values = l .values }
 
     read : readTrace tm buf len ≡ accepted t
-    read = traced-found 0 (readTrace tm buf len) (tracedOf l) e (ap answerOf h) .1
+    read = traced-found 0 (readTrace tm buf len) (tracedOf l) e (ap locatedOf h) .1
 
     -- a discontinuity
     pub is-countable : Countable buf len (l .places) (l .values)

@@ -20,7 +20,7 @@ use Rattle.meaning.proofs.Sound.{sound-scan}
 use Rattle.meaning.proofs.Outcomes.{scan-refused, read-refused}
 use Rattle.meaning.proofs.Lines.{listing-most}
 use Rattle.codes.specs.Codes.{Fits}
-use Rattle.codes.specs.Decisions.{decided}
+use Rattle.codes.specs.Decisions.{decidedNumber}
 
 check-of : (buf : List ℕ) (len : ℕ) (r : Result (List Row)) → scan buf len ≡ r → Fits (andThen r (λ rows. accepted (length rows)))
 check-of buf len (accepted rows) e = let a = sound-scan buf len rows e in omega (arith, rows-room (a .1 .tree), a .0 .most)
@@ -59,18 +59,18 @@ read-small tm buf len n p e = by (readTrace tm buf len) refl e
     by (refused k q) h f = let z : q ≡ p = cc in omega (arith, read-refused tm buf len k q h .place)
 
 -- what refuses a decision has the place 0
-when-fits : (b : Bool) (x y : Result Decision) → Fits (decided x) → Fits (decided y) → Fits (decided (when b x y))
+when-fits : (b : Bool) (x y : Result Decision) → Fits (decidedNumber x) → Fits (decidedNumber y) → Fits (decidedNumber (when b x y))
 when-fits true x y f g = f
 when-fits false x y f g = g
 
-then-fits : (tm : Terms) (buf : List ℕ) (len : ℕ) (go : List ℕ → Result Decision) → ((v : List ℕ) → Fits (decided (go v))) → Fits (decided (andThen (read tm buf len) go))
+then-fits : (tm : Terms) (buf : List ℕ) (len : ℕ) (go : List ℕ → Result Decision) → ((v : List ℕ) → Fits (decidedNumber (go v))) → Fits (decidedNumber (andThen (read tm buf len) go))
 then-fits tm buf len go f = by (read tm buf len) refl
   where
-    by : (x : Result (List ℕ)) → read tm buf len ≡ x → Fits (decided (andThen x go))
+    by : (x : Result (List ℕ)) → read tm buf len ≡ x → Fits (decidedNumber (andThen x go))
     by (accepted v) h = f v
     by (refused n p) h = omega (arith, read-small tm buf len n p h)
 
-pub forward-fits : (tm : Terms) (buf : List ℕ) (len : ℕ) (s : Bool) → Fits (decided (forwarding tm buf len s))
+pub forward-fits : (tm : Terms) (buf : List ℕ) (len : ℕ) (s : Bool) → Fits (decidedNumber (forwarding tm buf len s))
 unfolding forwarding forwardBy
 forward-fits tm buf len s =
     then-fits tm buf len (λ v. forwardBy v s) (λ v.
@@ -79,7 +79,7 @@ forward-fits tm buf len s =
     (when-fits (unrecognised (value v Forward·)) _ _ (omega arith)
     (when-fits (not s && ifSupported (value v Forward·)) _ _ (omega arith) (omega arith)))))
 
-pub arrive-fits : (tm : Terms) (buf : List ℕ) (len : ℕ) → Fits (decided (arrival tm buf len))
+pub arrive-fits : (tm : Terms) (buf : List ℕ) (len : ℕ) → Fits (decidedNumber (arrival tm buf len))
 unfolding arrival arriveBy
 arrive-fits tm buf len =
     then-fits tm buf len arriveBy (λ v.

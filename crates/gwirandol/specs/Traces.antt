@@ -20,13 +20,13 @@ abbrev pub readCode : Result (List ℕ) → ℕ
 readCode (accepted v) = 0
 readCode (refused n p) = code (refused n p)
 
-abbrev pub valuesIn : List ℕ → Result (List ℕ) → List ℕ
-valuesIn before (accepted v) = v
-valuesIn before (refused n p) = before
+abbrev pub valuesAfter : List ℕ → Result (List ℕ) → List ℕ
+valuesAfter before (accepted v) = v
+valuesAfter before (refused n p) = before
 
 pub record Reads (buf : List ℕ) (len : ℕ) (sheet before : List ℕ) (r : ℕ) (after : List ℕ) : Type 0 where
   pub answer : r ≡ readCode (read (termsOf sheet) buf len)
-  pub values : after ≡ valuesIn before (read (termsOf sheet) buf len)
+  pub values : after ≡ valuesAfter before (read (termsOf sheet) buf len)
 
 -- THE N-TH ACTIVITY GROUP: place and length
 abbrev pub Spans : List ℕ → ℕ → List ℕ → ℕ → List ℕ → Type 0

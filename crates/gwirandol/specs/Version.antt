@@ -11,5 +11,5 @@ abbrev pub patch : ℕ
 patch = 0
 
 -- minor and patch have three digits each
-abbrev pub version : ℕ
-version = major * 1000000 + minor * 1000 + patch
+abbrev pub libraryVersion : ℕ
+libraryVersion = major * 1000000 + minor * 1000 + patch

@@ -8,7 +8,7 @@ use trace::Answer;
 ghost use mathlib.Core.Path.{_≡_};
 ghost use Rattle.codes.specs.Codes.{code};
 ghost use Rattle.attributes.specs.Terms.{termsOf};
-ghost use Rattle.codes.specs.Decisions.{decided};
+ghost use Rattle.codes.specs.Decisions.{decidedNumber};
 ghost use Rattle.codes.specs.Options.{optionsIn};
 ghost use Rattle.gwirandol.specs.Traces.{Composes, Reads, Spans, Names};
 ghost use Rattle.meaning.specs.Activity.{nameOf};
@@ -51,7 +51,7 @@ pub extern "C" fn gw_read(
 // and 16.
 #[no_mangle]
 pub extern "C" fn gw_forward(buffer: &[u8], length: usize, sheet: &[u32; 8], options: u32) -> u64
-    ensures { λ r. ⌜ r ≡ code (decided (forwarding (termsOf (now (sheet .entry))) (now (buffer .entry)) length (optionsIn options .supporting))) ⌝ }
+    ensures { λ r. ⌜ r ≡ code (decidedNumber (forwarding (termsOf (now (sheet .entry))) (now (buffer .entry)) length (optionsIn options .supporting))) ⌝ }
 {
     let s = *sheet;
     let said = options_of(options);
@@ -61,7 +61,7 @@ pub extern "C" fn gw_forward(buffer: &[u8], length: usize, sheet: &[u32; 8], opt
 // ARRIVAL: 2 to put, 3 to withhold, or Read's refusals, then 14.
 #[no_mangle]
 pub extern "C" fn gw_arrive(buffer: &[u8], length: usize, sheet: &[u32; 8]) -> u64
-    ensures { λ r. ⌜ r ≡ code (decided (arrival (termsOf (now (sheet .entry))) (now (buffer .entry)) length)) ⌝ }
+    ensures { λ r. ⌜ r ≡ code (decidedNumber (arrival (termsOf (now (sheet .entry))) (now (buffer .entry)) length)) ⌝ }
 {
     let s = *sheet;
     judged(routing::arrive(buffer, length, s))

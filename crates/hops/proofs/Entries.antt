@@ -11,11 +11,11 @@ use Rattle.meaning.proofs.Decimals.{column-ten}
 use Rattle.meaning.proofs.Outcomes.{read-refused}
 use Rattle.text.specs.Wrote.{Room, Wrote}
 use Rattle.text.proofs.Laws.{then}
-use Rattle.trace.specs.Locations.{done, Outcome, traced}
+use Rattle.trace.specs.Locations.{located, Readout, traced}
 use Rattle.trace.proofs.Locating.{traced-refused, traced-found}
 use Rattle.hops.specs.Hops.{hopLines, hopsIn, hopsText}
 use Rattle.text.specs.Prints.{Prints}
-use Rattle.hops.specs.Groups.{Due, groupsOf, Done}
+use Rattle.hops.specs.Groups.{LinesDue, groupsOf, LinesDone}
 use Rattle.hops.specs.declared.groups.Groups.{Groups}
 use Rattle.text.proofs.Printed.{wrote-as, wrote-length, prints}
 
@@ -23,7 +23,7 @@ end-most : (n : ℕ) → length (endLine n) ≤ 15
 unfolding endLine
 end-most n = rw length-append (omega (arith, column-ten n newline))
 
-module _ (tm : Terms) (msg : List ℕ) (id : ℕ) (before : List ℕ) (o : Outcome) (h : o ≡ traced 0 (readTrace tm msg (length msg))) where
+module _ (tm : Terms) (msg : List ℕ) (id : ℕ) (before : List ℕ) (o : Readout) (h : o ≡ traced 0 (readTrace tm msg (length msg))) where
   -- a message or a sheet that is refused
   module _ (k p : ℕ) (f : o .answer ≡ refused k p) where
     lost : readTrace tm msg (length msg) ≡ refused k p
@@ -37,14 +37,14 @@ module _ (tm : Terms) (msg : List ℕ) (id : ℕ) (before : List ℕ) (o : Outco
     lost-text after r w = prints (wrote-as (sym (ap (hopsIn tm msg id) lost)) w)
 
   -- a sound trace
-  module _ (f : o .answer ≡ accepted done) (room : 131072 ≤ length before) where
+  module _ (f : o .answer ≡ accepted located) (room : 131072 ≤ length before) where
     found : (t : Trace) × (readTrace tm msg (length msg) ≡ accepted t)
     found = let g = traced-found 0 (readTrace tm msg (length msg)) o h f in (record { rows = g .0; places = o .places; values = o .values }, g .1)
 
-    pub lines-due : Due tm msg before
+    pub lines-due : LinesDue tm msg before
     lines-due = record { trace = found .0; sound = found .1; room = room }
 
-    module _ (middle : List ℕ) (g : Groups) (d : Done tm msg id before middle g) where
+    module _ (middle : List ℕ) (g : Groups) (d : LinesDone tm msg id before middle g) where
       both : Room before 0 (hopLines tm msg id (g .count) ++ endLine (g .count))
       both = record { fits = omega (arith, d .short, d .wrote .place, end-most (g .count), length-append (hopLines tm msg id (g .count)) (endLine (g .count))) }
 

@@ -13,7 +13,7 @@ use Rattle.text.specs.Wrote.{Room, Wrote}
 use Rattle.text.proofs.Laws.{then}
 use Rattle.reader.specs.Reading.{nthTop}
 use Rattle.hops.specs.Hops.{hopOf, hopLines}
-use Rattle.hops.specs.Groups.{spotIn, Ready, Added, Due, groupsOf, Done}
+use Rattle.hops.specs.Groups.{spotIn, LineReady, Added, LinesDue, groupsOf, LinesDone}
 use Rattle.hops.specs.declared.groups.Spot.{Spot}
 use Rattle.hops.specs.declared.groups.Spot.the-variants.{Activity, Other}
 use Rattle.hops.specs.declared.groups.Groups.{Groups}
@@ -34,10 +34,10 @@ unfolding hopLines
 lines-more tm msg id n = sym (ap (hopLines tm msg id) (add-one n))
 
 module _ (tm : Terms) (msg : List ℕ) (id : ℕ) (before : List ℕ) where
-  pub header-there : Due tm msg before → 36 ≤ length msg
+  pub header-there : LinesDue tm msg before → 36 ≤ length msg
   header-there d = sound tm msg (length msg) (d .trace) (d .sound) .lies .least
 
-  pub begun : Due tm msg before → Written tm msg id before before (record { count = 0; text = 0 }) 0
+  pub begun : LinesDue tm msg before → Written tm msg id before before (record { count = 0; text = 0 }) 0
   begun d =
       record {
         upto = at-start tm msg (d .trace) (d .sound);
@@ -60,7 +60,7 @@ module _ (tm : Terms) (msg : List ℕ) (id : ℕ) (before : List ℕ) where
       at-activity : (place : ℕ) → Activity place ≡ spotIn (nthTop msg k) → Here tm msg k (g .count) (g .text) place
       at-activity place e = is-activity tm msg k (g .count) (g .text) (w .upto) still place e
 
-      pub ready : Ready tm msg id g after (spotIn (nthTop msg k))
+      pub ready : LineReady tm msg id g after (spotIn (nthTop msg k))
       ready place e =
           let h = at-activity place (sym e) in
           record {
@@ -95,7 +95,7 @@ module _ (tm : Terms) (msg : List ℕ) (id : ℕ) (before : List ℕ) where
               }
 
     -- none is due any more
-    pub finished : number msg 32 ≤ k → Done tm msg id before after g
+    pub finished : number msg 32 ≤ k → LinesDone tm msg id before after g
     finished h =
         let e = at-end tm msg k (g .count) (g .text) (w .upto) (omega (arith, w .upto .total)) in
         record {

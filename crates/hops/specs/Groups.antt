@@ -32,8 +32,8 @@ pub record Reached (tm : Terms) (msg : List ℕ) (id n place : ℕ) (out : List 
   pub room : Room out at (hopOf tm msg id n)
 
 -- the next structure at the top level, behind the groups g: where it is an Activity group, its line has room
-abbrev pub Ready : Terms → List ℕ → ℕ → Groups → List ℕ → Spot → Type 0
-Ready tm msg id g out spot = (place : ℕ) → spot ≡ Activity place → Reached tm msg id (g .count) place out (g .text)
+abbrev pub LineReady : Terms → List ℕ → ℕ → Groups → List ℕ → Spot → Type 0
+LineReady tm msg id g out spot = (place : ℕ) → spot ≡ Activity place → Reached tm msg id (g .count) place out (g .text)
 
 -- with it: an Activity group counts and has a line behind the others, anything else changes nothing
 abbrev pub Added : Terms → List ℕ → ℕ → Groups → List ℕ → List ℕ → Groups → Spot → Type 0
@@ -41,7 +41,7 @@ Added tm msg id g before after r (Activity place) = (r .count ≡ g .count + 1) 
 Added tm msg id g before after r Other = (r ≡ g) × (after ≡ before)
 
 -- a sound trace whose lines are due
-pub record Due (tm : Terms) (msg out : List ℕ) : Type 0 where
+pub record LinesDue (tm : Terms) (msg out : List ℕ) : Type 0 where
   pub trace : Trace
   pub sound : readTrace tm msg (length msg) ≡ accepted trace
   pub room : 131072 ≤ length out
@@ -52,7 +52,7 @@ groupsOf (accepted t) = length (activities (t .rows))
 groupsOf (refused k p) = 0
 
 -- all lines are written, and the last line still has room
-pub record Done (tm : Terms) (msg : List ℕ) (id : ℕ) (before after : List ℕ) (r : Groups) : Type 0 where
+pub record LinesDone (tm : Terms) (msg : List ℕ) (id : ℕ) (before after : List ℕ) (r : Groups) : Type 0 where
   pub count : r .count ≡ groupsOf (readTrace tm msg (length msg))
   pub wrote : Wrote before 0 (hopLines tm msg id (r .count)) after (r .text)
   pub short : r .text + 15 ≤ 131072

@@ -12,7 +12,7 @@ ghost use Rattle.attributes.specs.Terms.{termsOf};
 ghost use Rattle.reader.specs.Reading.{nthTop};
 ghost use Rattle.text.specs.Wrote.{Wrote};
 ghost use Rattle.hops.specs.Hops.{hopOf};
-ghost use Rattle.hops.specs.Groups.{spotIn, Reached, Ready, Added, Due, Done};
+ghost use Rattle.hops.specs.Groups.{spotIn, Reached, LineReady, Added, LinesDue, LinesDone};
 
 // Stands for a name that is not there.
 const NO_NAME: [u8; 1] = *b"-";
@@ -71,7 +71,7 @@ fn put_group(
 // The k-th structure of the top level, with the groups before it: an Activity group has a line behind theirs, anything else
 // has none.
 fn put_top(msg: &[u8], sheet: [u32; 8], id: u32, k: u32, before: Groups, out: &mut [u8]) -> Groups
-    requires { ⌜ Ready (termsOf sheet) (now msg) id before (now out) (spotIn (nthTop (now msg) k)) ⌝ }
+    requires { ⌜ LineReady (termsOf sheet) (now msg) id before (now out) (spotIn (nthTop (now msg) k)) ⌝ }
     ensures { λ r. ⌜ Added (termsOf sheet) (now (msg .entry)) id before (now (out .entry)) (now (out .exit)) r (spotIn (nthTop (now (msg .entry)) k)) ⌝ }
 {
     let spot = spot_at(msg, k);
@@ -89,8 +89,8 @@ fn put_top(msg: &[u8], sheet: [u32; 8], id: u32, k: u32, before: Groups, out: &m
 
 // Goes over the top-level structures with a reader, and writes a line for each Activity group.
 pub fn put_groups(msg: &[u8], sheet: [u32; 8], id: u32, out: &mut [u8]) -> Groups
-    requires { ⌜ Due (termsOf sheet) (now msg) (now out) ⌝ }
-    ensures { λ r. ⌜ Done (termsOf sheet) (now (msg .entry)) id (now (out .entry)) (now (out .exit)) r ⌝ }
+    requires { ⌜ LinesDue (termsOf sheet) (now msg) (now out) ⌝ }
+    ensures { λ r. ⌜ LinesDone (termsOf sheet) (now (msg .entry)) id (now (out .entry)) (now (out .exit)) r ⌝ }
 {
     let count = number_at(msg, 32);
     let mut groups = Groups { count: 0, text: 0 };

@@ -21,7 +21,7 @@ use Rattle.text.proofs.Printed.{prints}
 use Rattle.refusals.specs.Refusals.{numberOf, placeOf, refusal}
 use Rattle.refusals.specs.declared.Refusal.{Refusal}
 use Rattle.listing.specs.Text.{textOf, Checked}
-use Rattle.listing.specs.Entries.{filled, Lists}
+use Rattle.listing.specs.Entries.{filled, ListedAs}
 use Rattle.listing.specs.declared.Listed.the-variants.{Text, Refused}
 
 -- the message as a slice of its own
@@ -63,20 +63,20 @@ module _ (buf : List ℕ) (len n : ℕ) (e : check buf len ≡ accepted n) where
       ap (textOf (take len buf)) as-whole
       ∙ ap (λ (x : Part). listingText x (x .end) its-rows) (sym (part-whole buf len (its .0 .there)))
 
-  pub list-sound : (out after : List ℕ) (r : ℕ) → Wrote out 0 (textOf (take len buf) (rowsOf (whole (take len buf)))) after r → Lists buf len out after (Text r)
+  pub list-sound : (out after : List ℕ) (r : ℕ) → Wrote out 0 (textOf (take len buf) (rowsOf (whole (take len buf)))) after r → ListedAs buf len out after (Text r)
   list-sound out after r w =
       record {
         answer = rw its-scan (ap accepted (w .place ∙ zero-add _ ∙ ap length same-text));
         bytes = rw its-scan (w .bytes ∙ ap (splice out 0) same-text);
       }
 
-pub list-refused : (buf : List ℕ) (len : ℕ) (r : Refusal) (out : List ℕ) → check buf len ≡ refusal r → Lists buf len out out (Refused r)
+pub list-refused : (buf : List ℕ) (len : ℕ) (r : Refusal) (out : List ℕ) → check buf len ≡ refusal r → ListedAs buf len out out (Refused r)
 list-refused buf len r out e =
     let s = check-refused buf len (numberOf r) (placeOf r) e in
     record { answer = rw s refl; bytes = rw s refl }
 
 -- what `list` leaves is what is printed, where it gives a text
-pub print-listed : (input before after : List ℕ) (n : ℕ) → Lists input (length input) before after (Text n) → Prints (listing input (length input)) before after n
+pub print-listed : (input before after : List ℕ) (n : ℕ) → ListedAs input (length input) before after (Text n) → Prints (listing input (length input)) before after n
 unfolding listing
 print-listed input before after n l = prints (go (scan input (length input)) (l .answer) (l .bytes))
   where
@@ -88,7 +88,7 @@ print-listed input before after n l = prints (go (scan input (length input)) (l 
     go (refused k p) e f = absurd (clash (cc))
 
 -- where it refuses, it leaves the buffer, and the refusal is the scan's
-module _ (input before middle : List ℕ) (r : Refusal) (l : Lists input (length input) before middle (Refused r)) where
+module _ (input before middle : List ℕ) (r : Refusal) (l : ListedAs input (length input) before middle (Refused r)) where
   its-refusal : (scan input (length input) ≡ refused (numberOf r) (placeOf r)) × (middle ≡ before)
   its-refusal = go (scan input (length input)) refl (l .answer) (l .bytes)
     where

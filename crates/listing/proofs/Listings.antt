@@ -16,7 +16,7 @@ use Rattle.meaning.proofs.Sound.{sound-rows}
 use Rattle.text.specs.Wrote.{Room, Wrote}
 use Rattle.text.specs.Lines.{headerText}
 use Rattle.text.proofs.Laws.{front, behind, then}
-use Rattle.listing.specs.Rows.{Due, Done}
+use Rattle.listing.specs.Rows.{RowsDue, RowsDone}
 use Rattle.listing.specs.Text.{textOf, Checked}
 use Rattle.listing.specs.declared.rows.Behind.{Behind}
 use Rattle.listing.proofs.Turns.{done-as}
@@ -40,7 +40,7 @@ module _ (s : List ℕ) (count : ℕ) (out : List ℕ) (u : Checked s count) (bi
   header-room = front _ room
 
   module _ (t : List ℕ) (n : ℕ) (w : Wrote out 0 (headerText a b k (length s)) t n) where
-    pub rows-due : Due s 36 1 k t n
+    pub rows-due : RowsDue s 36 1 k t n
     rows-due =
         record {
           rows = u .rows;
@@ -52,7 +52,7 @@ module _ (s : List ℕ) (count : ℕ) (out : List ℕ) (u : Checked s count) (bi
           room = front _ (behind _ w room);
         }
 
-    module _ (t′ : List ℕ) (r : Behind) (x : Done (walk (whole s) 36 1 k) t n t′ r) where
+    module _ (t′ : List ℕ) (r : Behind) (x : RowsDone (walk (whole s) 36 1 k) t n t′ r) where
       rows-done : Wrote t n (rowLines (u .rows)) t′ (r .text)
       rows-done = (done-as sound x) .wrote
 

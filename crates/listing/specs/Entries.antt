@@ -22,6 +22,6 @@ filled out buf len (accepted rows) = splice out 0 (listingText (partOf buf len) 
 filled out buf len (refused n p) = out
 
 -- LIST: the text's length, or the scan's refusal
-pub record Lists (buf : List ℕ) (len : ℕ) (before after : List ℕ) (r : Listed) : Type 0 where
+pub record ListedAs (buf : List ℕ) (len : ℕ) (before after : List ℕ) (r : Listed) : Type 0 where
   pub answer : listedOf r ≡ andThen (scan buf len) (λ rows. accepted (length (listingText (partOf buf len) len rows)))
   pub bytes : after ≡ filled before buf len (scan buf len)

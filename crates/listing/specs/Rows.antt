@@ -22,7 +22,7 @@ nextIn (accepted w) = w .next
 nextIn (refused n p) = 0
 
 -- What is due: the n structures of depth d from p on are sound, and their lines have room in the buffer from `at` on.
-pub record Due (s : List ℕ) (p d n : ℕ) (out : List ℕ) (at : ℕ) : Type 0 where
+pub record RowsDue (s : List ℕ) (p d n : ℕ) (out : List ℕ) (at : ℕ) : Type 0 where
   pub rows : List Row
   pub next : ℕ
   pub sound : walk (whole s) p d n ≡ walked rows next
@@ -32,6 +32,6 @@ pub record Due (s : List ℕ) (p d n : ℕ) (out : List ℕ) (at : ℕ) : Type 0
   pub room : Room out at (rowLines rows)
 
 -- What was done: the walk's lines are written, and the answer is the places behind them and behind the walk.
-pub record Done (w : Result Walked) (before : List ℕ) (at : ℕ) (after : List ℕ) (r : Behind) : Type 0 where
+pub record RowsDone (w : Result Walked) (before : List ℕ) (at : ℕ) (after : List ℕ) (r : Behind) : Type 0 where
   pub wrote : Wrote before at (rowLines (rowsIn w)) after (r .text)
   pub next : r .place ≡ nextIn w

@@ -13,7 +13,7 @@ ghost use Rattle.meaning.specs.Listing.{refusalLine, listing as listingOf};
 ghost use Rattle.refusals.specs.Refusals.{numberOf, placeOf};
 ghost use Rattle.text.specs.Prints.{Prints};
 ghost use Rattle.text.specs.Wrote.{Wrote};
-ghost use Rattle.listing.specs.Entries.{Lists};
+ghost use Rattle.listing.specs.Entries.{ListedAs};
 
 // What `list` answers: the text's length, or 1 to 5.
 pub enum Listed {
@@ -24,7 +24,7 @@ pub enum Listed {
 // LIST: the listing of the message in the first `len` bytes, written from the buffer's first byte on. A message that is
 // refused leaves the buffer as it was, so the check comes first.
 pub fn list(msg: &[u8], len: usize, out: &mut [u8; 131072]) -> Listed
-    ensures { λ r. ⌜ Lists (now (msg .entry)) len (now (out .entry)) (now (out .exit)) r ⌝ }
+    ensures { λ r. ⌜ ListedAs (now (msg .entry)) len (now (out .entry)) (now (out .exit)) r ⌝ }
 {
     let found = check(msg, len);
     match found {

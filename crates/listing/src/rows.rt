@@ -8,7 +8,7 @@ ghost use Prim.Native.Nat.{_+_, _≤_};
 ghost use lib.ListN.{length};
 ghost use Rattle.meaning.specs.Bytes.{whole};
 ghost use Rattle.meaning.specs.Walk.{walk};
-ghost use Rattle.listing.specs.Rows.{lineAt, Due, Done};
+ghost use Rattle.listing.specs.Rows.{lineAt, RowsDue, RowsDone};
 
 // The place behind the text that was written, and the place behind the structures that it shows.
 pub struct Behind {
@@ -32,8 +32,8 @@ fn line_at(s: &[u8], place: usize, depth: u32) -> Line
 
 // Writes the line of the structure at `place`, and behind it those of all that is inside.
 fn put_one(s: &[u8], place: usize, depth: u32, out: &mut [u8], at: usize) -> Behind
-    requires { ⌜ Due (now s) place depth 1 (now out) at ⌝ }
-    ensures { λ r. ⌜ Done (walk (whole (now (s .entry))) place depth 1) (now (out .entry)) at (now (out .exit)) r ⌝ }
+    requires { ⌜ RowsDue (now s) place depth 1 (now out) at ⌝ }
+    ensures { λ r. ⌜ RowsDone (walk (whole (now (s .entry))) place depth 1) (now (out .entry)) at (now (out .exit)) r ⌝ }
 {
     let line = line_at(s, place, depth);
     let next = place + line.size as usize;
@@ -47,8 +47,8 @@ fn put_one(s: &[u8], place: usize, depth: u32, out: &mut [u8], at: usize) -> Beh
 
 // Writes the lines of `count` structures from `place` on, with all that is inside them.
 pub fn put_all(s: &[u8], place: usize, depth: u32, count: u32, out: &mut [u8], at: usize) -> Behind
-    requires { ⌜ Due (now s) place depth count (now out) at ⌝ }
-    ensures { λ r. ⌜ Done (walk (whole (now (s .entry))) place depth count) (now (out .entry)) at (now (out .exit)) r ⌝ }
+    requires { ⌜ RowsDue (now s) place depth count (now out) at ⌝ }
+    ensures { λ r. ⌜ RowsDone (walk (whole (now (s .entry))) place depth count) (now (out .entry)) at (now (out .exit)) r ⌝ }
 {
     let mut text = at;
     let mut next = place;

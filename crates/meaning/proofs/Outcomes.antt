@@ -9,7 +9,7 @@ use lib.ListN.{length}
 use lib.Dec.{leb, eqb, ltb}
 use Rattle.meaning.specs.Bytes.{Part}
 use Rattle.meaning.specs.Answer.{Result, accepted, refused, andThen, unless}
-use Rattle.meaning.specs.Structure.{Row, lengthRule, rowOf, judged, judge, structureAt}
+use Rattle.meaning.specs.Structure.{Row, lengthRule, rowAt, judged, judge, structureAt}
 use Rattle.meaning.specs.Walk.{Walked, walked, followedBy, ahead, enter, walkFuel, walk}
 use Rattle.meaning.specs.Message.{headerOk, lengthOk, partOf, parameterCount, firstPlace, closed, rowsOf, scan, check}
 use Rattle.meaning.specs.Trace.{Terms, sheetOk, traceHeader, traceRoutes, directMembers, eachOnce, placesOf, valuesAt, inRange, readMembers, readRows, readTrace}
@@ -51,7 +51,7 @@ judged-refused false y p r n q e = let k : n ≡ 3 = cc in let z : q ≡ p = cc 
 judge-refused : (end p d t n k a b c m q : ℕ) → judge end p d t n k a b c ≡ refused m q → Faulty p m q
 unfolding judge
 judge-refused end p d t n k a b c m q e =
-    judged-refused (leb (p + n) end && (eqb (n % 4) 0 && lengthRule t n a b c)) (eqb t 20 && ltb 8 d) p (rowOf p d t n k a) m q e
+    judged-refused (leb (p + n) end && (eqb (n % 4) 0 && lengthRule t n a b c)) (eqb t 20 && ltb 8 d) p (rowAt p d t n k a) m q e
 
 structure-refused : (s : Part) (p d n q : ℕ) → structureAt s p d ≡ refused n q → Faulty p n q
 unfolding structureAt

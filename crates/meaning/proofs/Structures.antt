@@ -9,7 +9,7 @@ use borrow.Author.Tests.{leb-true, eqb-true, le-leb}
 use Rattle.meaning.specs.Bytes.{Part, num, word}
 use Rattle.meaning.specs.Names.{«MQCFT_INTEGER», «MQCFT_GROUP», mostDepth}
 use Rattle.meaning.specs.Answer.{accepted, refused}
-use Rattle.meaning.specs.Structure.{Row, small, lengthRule, rowOf, judged, aligned, judge, structureAt}
+use Rattle.meaning.specs.Structure.{Row, small, lengthRule, rowAt, judged, aligned, judge, structureAt}
 use Rattle.meaning.proofs.Numbers.{Run, number-match, number-same}
 use Rattle.meaning.proofs.Tests.{clash, and-true, either, second, is-false, leb-iff, cond-match}
 
@@ -62,7 +62,7 @@ pub record Judged (end p d t n k a b c : ℕ) (r : Row) : Type 0 where
   pub four : aligned n ≡ true
   pub ruled : lengthRule t n a b c ≡ true
   pub shallow : eqb t «MQCFT_GROUP» && ltb mostDepth d ≡ false
-  pub row : rowOf p d t n k a ≡ r
+  pub row : rowAt p d t n k a ≡ r
 
 pub judge-accepted : (end p d t n k a b c : ℕ) (r : Row) → judge end p d t n k a b c ≡ accepted r → Judged end p d t n k a b c r
 unfolding judge

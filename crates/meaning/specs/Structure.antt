@@ -38,8 +38,8 @@ lengthRule t n a b c =
     false))))))))))
 
 -- the row of a structure at p of depth d, of type t, StrucLength n, Parameter k, whose next field is a
-abbrev pub rowOf : ℕ → ℕ → ℕ → ℕ → ℕ → ℕ → Row
-rowOf p d t n k a = record { depth = d; place = p; kind = t; parameter = k; size = n; members = cond (eqb t «MQCFT_GROUP») a 0 }
+abbrev pub rowAt : ℕ → ℕ → ℕ → ℕ → ℕ → ℕ → Row
+rowAt p d t n k a = record { depth = d; place = p; kind = t; parameter = k; size = n; members = cond (eqb t «MQCFT_GROUP») a 0 }
 
 -- 3 comes before 4: a structure that is not sound is 3, however deep
 abbrev pub judged : Bool → Bool → ℕ → Row → Result Row
@@ -55,7 +55,7 @@ aligned n = eqb (n % 4) 0
 -- keeps its type's rule; a group is not deeper than 8.
 unfoldable pub judge : ℕ → ℕ → ℕ → ℕ → ℕ → ℕ → ℕ → ℕ → ℕ → Result Row
 judge end p d t n k a b c =
-    judged (leb (p + n) end && (aligned n && lengthRule t n a b c)) (eqb t «MQCFT_GROUP» && ltb mostDepth d) p (rowOf p d t n k a)
+    judged (leb (p + n) end && (aligned n && lengthRule t n a b c)) (eqb t «MQCFT_GROUP» && ltb mostDepth d) p (rowAt p d t n k a)
 
 -- The structure at the place p and depth d: its row, or 3 or 4 at p. The fields stand at 0 Type, 4 StrucLength,
 -- 8 Parameter, then 12, 16 and 20. Where fewer than 16 bytes are left no length rule can be kept: that is 3.

@@ -12,7 +12,7 @@ use Rattle.meaning.specs.Message.{partOf, closed, check, countsFrom, types}
 use Rattle.meaning.proofs.Walks.{walks}
 use Rattle.meaning.proofs.Tallies.{total-counts, walks-kinds}
 use Rattle.walk.specs.Tallies.{tallied}
-use Rattle.pcf.specs.Messages.{opened, Tallies}
+use Rattle.pcf.specs.Messages.{opened, RowsTallied}
 use Rattle.pcf.specs.declared.message.Checked.the-variants.{Sound}
 use Rattle.walk.proofs.Counting.{counted}
 use Rattle.walk.proofs.Counts.{came, told, halted}
@@ -53,7 +53,7 @@ module _ (m : Part) (p d n : ℕ) where
   closed-fault len k q u e = rw (halted (replicate types 0) (walk m p d n) k q u e) refl
 
   pub counted-end : (len q : ℕ) (u : List ℕ) → Counted q u → q ≡ len → (k : ℕ) → k ≡ sum _+_ 0 u
-      → Tallies (andThen (walk m p d n) (closed len)) (record { answer = Sound k; counts = u })
+      → RowsTallied (andThen (walk m p d n) (closed len)) (record { answer = Sound k; counts = u })
   counted-end len q u c e k s =
       rw (closed-end len q (sum _+_ 0 u) (c .past) e) (record { answer = rw (s, c .past .number) refl; counts = c .counts })
 

@@ -36,7 +36,7 @@ steppedOf (stepped.Structure r q) = accepted (record { row = rowOf r; next = q }
 steppedOf (stepped.Refused r) = refusal r
 
 -- t is the answer and the counts for these rows, or for what stands in their place
-pub record Tallies (rows : Result (List Row)) (t : Tallied) : Type 0 where
+pub record RowsTallied (rows : Result (List Row)) (t : Tallied) : Type 0 where
   pub answer : checkedOf (t .answer) ≡ andThen rows (λ rs. accepted (length rs))
   pub counts : t .counts ≡ tallyOf rows
 

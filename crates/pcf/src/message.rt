@@ -18,7 +18,7 @@ ghost use Rattle.meaning.specs.Answer.{andThen};
 ghost use Rattle.meaning.specs.Walk.{walk};
 ghost use Rattle.meaning.specs.Message.{headerOk, partOf, lengthOk, closed, check, step};
 ghost use Rattle.refusals.specs.Refusals.{refusal};
-ghost use Rattle.pcf.specs.Messages.{checkedOf, opened, openedOf, steppedOf, Tallies, TalliedAs};
+ghost use Rattle.pcf.specs.Messages.{checkedOf, opened, openedOf, steppedOf, RowsTallied, TalliedAs};
 
 // The most bytes of a message.
 pub const MOST_BYTES: usize = 65536;
@@ -89,7 +89,7 @@ fn total(counts: [u32; 27]) -> u32
 
 // A message that is refused has no counts.
 fn refused(r: Refusal) -> Tallied
-    ensures { λ t. ⌜ Tallies (refusal r) t ⌝ }
+    ensures { λ t. ⌜ RowsTallied (refusal r) t ⌝ }
 {
     Tallied {
         answer: Checked::Refused(r),
@@ -100,7 +100,7 @@ fn refused(r: Refusal) -> Tallied
 // A message with a sound header: all its structures are walked over, and nothing may follow.
 fn structures(msg: &[u8], len: usize, count: u32) -> Tallied
     requires { ⌜ (len ≤ length (now msg)) × (len ≤ 65536) ⌝ }
-    ensures { λ t. ⌜ Tallies (andThen (walk (partOf (now (msg .entry)) len) 36 1 count) (closed len)) t ⌝ }
+    ensures { λ t. ⌜ RowsTallied (andThen (walk (partOf (now (msg .entry)) len) 36 1 count) (closed len)) t ⌝ }
 {
     let walked = siblings(msg, len, HEADER, 1, count, [0u32; 27]);
     let ended = walked.ended;

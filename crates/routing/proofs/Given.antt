@@ -6,14 +6,14 @@ use Rattle.meaning.specs.Answer.{Result, accepted, refused, andThen}
 use Rattle.meaning.specs.Trace.{Trace}
 use Rattle.meaning.proofs.Tests.{clash, same-refusal}
 use Rattle.refusals.specs.Refusals.{numberOf, placeOf}
-use Rattle.trace.specs.Locations.{answerOf, traced}
+use Rattle.trace.specs.Locations.{locatedOf, traced}
 use Rattle.trace.specs.declared.location.Answer.{Answer}
 use Rattle.trace.specs.declared.location.Answer.the-variants.{Found, Refused}
 use Rattle.routing.specs.Readings.{Reading, reading, given, valuesOf}
 use Rattle.routing.specs.declared.Values.{Values}
 
 -- READ, from the trace
-pub read-traced : (n : ℕ) (r : Result Trace) (a : Answer) (v : List ℕ) → answerOf a ≡ traced n r .answer → v ≡ traced n r .values
+pub read-traced : (n : ℕ) (r : Result Trace) (a : Answer) (v : List ℕ) → locatedOf a ≡ traced n r .answer → v ≡ traced n r .values
     → record { answer = given a v; values = v } ≡ reading (andThen r (λ t. accepted (t .values)))
 read-traced n (accepted t) Found v e f = rw f refl
 read-traced n (accepted t) (Refused r) v e f = absurd (clash (cc))

@@ -25,8 +25,8 @@ use Rattle.pcf.specs.Messages.{opened}
 use Rattle.pcf.proofs.Openings.{scan-opened, opened-sized}
 use Rattle.header.specs.Headers.{fieldsOf, startsWith}
 use Rattle.trace.specs.Passing.{isSound}
-use Rattle.trace.specs.Groups.{groupOf, counted, Surveyed, surveyed}
-use Rattle.trace.specs.Locations.{Begun, Within, stop, found, attributesBy, attributesIn, judgedIn, Done, done, Outcome, traced}
+use Rattle.trace.specs.Groups.{wholeGroup, counted, Surveyed, surveyed}
+use Rattle.trace.specs.Locations.{Begun, Within, stop, found, attributesBy, attributesIn, judgedIn, Located, located, Readout, traced}
 use Rattle.trace.specs.declared.groups.Group.{Group}
 use Rattle.trace.specs.declared.groups.Counted.{Counted}
 use Rattle.header.specs.declared.Kind.the-variants.{Trace as trace}
@@ -135,12 +135,12 @@ module _ (m : Part) (p count : ℕ) (rows : List Row) (tree : Walks m p 1 count 
   nth-at id n h = all-at (all-groups id (tops-at tree)) noGroup n h
 
   pub nth-walk : (id n : ℕ) (h : n < length (groups id rows))
-      → walk m (groupOf (getD (groups id rows) n noGroup) .inside) 2 (groupOf (getD (groups id rows) n noGroup) .members) ≡ walked (getD (groups id rows) n noGroup .inside) (nth-at id n h .next)
-  unfolding groupOf
+      → walk m (wholeGroup (getD (groups id rows) n noGroup) .inside) 2 (wholeGroup (getD (groups id rows) n noGroup) .members) ≡ walked (getD (groups id rows) n noGroup .inside) (nth-at id n h .next)
+  unfolding wholeGroup
   nth-walk id n h = let t = nth-at id n h in walk-of (t .within) (t .ends)
 
-  nth-behind : (id n : ℕ) → n < length (groups id rows) → p ≤ groupOf (getD (groups id rows) n noGroup) .inside
-  unfolding groupOf
+  nth-behind : (id n : ℕ) → n < length (groups id rows) → p ≤ wholeGroup (getD (groups id rows) n noGroup) .inside
+  unfolding wholeGroup
   nth-behind id n h = omega (arith, nth-at id n h .behind)
 
   route-members : length (traceRoutes rows) ≡ 1
@@ -269,20 +269,20 @@ module _ {sheet buf : List ℕ} {len n count : ℕ} {s : Surveyed} (g : Gone she
           })
 
 -- WHAT THE ANSWER TELLS of what Read gives
-pub traced-refused : (n : ℕ) (x : Result Trace) (o : Outcome) (k p : ℕ) → o ≡ traced n x → o .answer ≡ refused k p → x ≡ refused k p
+pub traced-refused : (n : ℕ) (x : Result Trace) (o : Readout) (k p : ℕ) → o ≡ traced n x → o .answer ≡ refused k p → x ≡ refused k p
 traced-refused n (accepted t) o k p h f =
-    let e : _≡_ {A = Result Done} (accepted done) (refused k p) = sym (ap (λ (y : Outcome). y .answer) h) ∙ f in
+    let e : _≡_ {A = Result Located} (accepted located) (refused k p) = sym (ap (λ (y : Readout). y .answer) h) ∙ f in
     absurd (clash (cc))
 traced-refused n (refused k′ p′) o k p h f =
-    let e : _≡_ {A = Result Done} (refused k′ p′) (refused k p) = sym (ap (λ (y : Outcome). y .answer) h) ∙ f in
+    let e : _≡_ {A = Result Located} (refused k′ p′) (refused k p) = sym (ap (λ (y : Readout). y .answer) h) ∙ f in
     cc
 
-pub traced-found : (n : ℕ) (x : Result Trace) (o : Outcome) → o ≡ traced n x → o .answer ≡ accepted done
+pub traced-found : (n : ℕ) (x : Result Trace) (o : Readout) → o ≡ traced n x → o .answer ≡ accepted located
     → (rows : List Row) × (x ≡ accepted (record { rows = rows; places = o .places; values = o .values }))
 traced-found n (accepted t) o h f =
-    let p : o .places ≡ t .places = ap (λ (y : Outcome). y .places) h in
-    let v : o .values ≡ t .values = ap (λ (y : Outcome). y .values) h in
+    let p : o .places ≡ t .places = ap (λ (y : Readout). y .places) h in
+    let v : o .values ≡ t .values = ap (λ (y : Readout). y .values) h in
     (t .rows, rw (p, v) refl)
 traced-found n (refused k p) o h f =
-    let e : _≡_ {A = Result Done} (refused k p) (accepted done) = sym (ap (λ (y : Outcome). y .answer) h) ∙ f in
+    let e : _≡_ {A = Result Located} (refused k p) (accepted located) = sym (ap (λ (y : Readout). y .answer) h) ∙ f in
     absurd (clash (cc))

@@ -22,13 +22,13 @@ use Rattle.meaning.proofs.Spans.{tiles-size}
 use Rattle.meaning.proofs.Tops.{until-walk, tops-next}
 use Rattle.trace.specs.declared.groups.Group.{Group}
 use Rattle.trace.specs.declared.groups.Counted.{Counted}
-use Rattle.trace.specs.Groups.{noGroupYet, noneYet, groupOf, counted, countRow, Surveyed, surveyed}
+use Rattle.trace.specs.Groups.{noGroupYet, noneYet, wholeGroup, counted, countRow, Surveyed, surveyed}
 use Rattle.trace.specs.Passing.{crossed}
 use Rattle.trace.proofs.Turns.{Over, walk-halt, walk-over}
 
 -- one more group
 abbrev onTo : ℕ → Counted → Top → Counted
-onTo n c t = record { count = c .count + 1; group = when (eqb (c .count) n) (groupOf t) (c .group) }
+onTo n c t = record { count = c .count + 1; group = when (eqb (c .count) n) (wholeGroup t) (c .group) }
 
 -- one more top-level structure, and all of them
 abbrev countTop : ℕ → ℕ → Counted → Top → Counted
@@ -56,11 +56,11 @@ count-groups id n c (t ∷ ts) = go (isGroup id t) (λ d. count-groups id n d ts
 -- the k-th of them, or what stands for it
 pickOr : List Top → ℕ → Group → Group
 pickOr [] k g = g
-pickOr (t ∷ ts) zero g = groupOf t
+pickOr (t ∷ ts) zero g = wholeGroup t
 pickOr (t ∷ ts) (suc k) g = pickOr ts k g
 
-pick-at : (ts : List Top) (k : ℕ) → pickOr ts k noGroupYet ≡ groupOf (getD ts k noGroup)
-unfolding pickOr groupOf sizeOf
+pick-at : (ts : List Top) (k : ℕ) → pickOr ts k noGroupYet ≡ wholeGroup (getD ts k noGroup)
+unfolding pickOr wholeGroup sizeOf
 pick-at [] k = refl
 pick-at (t ∷ ts) zero = refl
 pick-at (t ∷ ts) (suc k) = pick-at ts k
@@ -89,7 +89,7 @@ unfolding counted groups
 count-all id n rows =
     let gs : List Top = groupsIn id (tops rows) in
     let c : countGroups n noneYet gs .count ≡ length gs = groups-count n noneYet gs ∙ zero-add (length gs) in
-    let g : countGroups n noneYet gs .group ≡ groupOf (getD gs n noGroup) = groups-pick n noneYet gs n (sym (zero-add n)) ∙ pick-at gs n in
+    let g : countGroups n noneYet gs .group ≡ wholeGroup (getD gs n noGroup) = groups-pick n noneYet gs n (sym (zero-add n)) ∙ pick-at gs n in
     count-groups id n noneYet (tops rows)
     ∙ ap (λ (x : ℕ). record { count = x; group = countGroups n noneYet gs .group }) c
     ∙ ap (λ (x : Group). record { count = length gs; group = x }) g
@@ -131,7 +131,7 @@ module _ (m : Part) (p left n : ℕ) (a b : Counted) (due : 0 < left) where
 
     -- the place behind gives the group's length
     row-top : (id k : ℕ) (c : Counted) → countTop id k c top ≡ countRow id k c r q
-    unfolding countRow groupOf
+    unfolding countRow wholeGroup
     row-top id k c =
         let g = row-at m p 1 r (o .there) in
         let w = walks m (p + r .size) 2 (r .members) (o .inside) q (o .within) in

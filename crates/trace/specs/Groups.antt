@@ -23,13 +23,13 @@ abbrev pub noneYet : Counted
 noneYet = record { count = 0; group = noGroupYet }
 
 -- a group with all that is inside it
-unfoldable pub groupOf : Top → Group
-groupOf t =
+unfoldable pub wholeGroup : Top → Group
+wholeGroup t =
     record { place = t .row .place; inside = t .row .place + t .row .size; length = t .row .size + sizeOf (t .inside); members = t .row .members }
 
 -- the top-level groups with an identifier: how many there are, and the n-th
 unfoldable pub counted : ℕ → ℕ → List Row → Counted
-counted id n rows = record { count = length (groups id rows); group = groupOf (getD (groups id rows) n noGroup) }
+counted id n rows = record { count = length (groups id rows); group = wholeGroup (getD (groups id rows) n noGroup) }
 
 -- one more structure with the row r, which ends before q
 unfoldable pub countRow : ℕ → ℕ → Counted → Row → ℕ → Counted
@@ -42,7 +42,7 @@ countRow id n c r q =
     c
 
 -- the structure is a group that ends before q, and the count does not run over
-pub record Countable (c : Counted) (r : Row) (q : ℕ) : Type 0 where
+pub record CountableGroup (c : Counted) (r : Row) (q : ℕ) : Type 0 where
   pub a-group : r .kind ≡ «MQCFT_GROUP»
   pub few : c .count < 4294967296
   pub ends : r .place + r .size ≤ q

@@ -23,48 +23,48 @@ use Rattle.trace.specs.declared.location.Answer.the-variants.{Found, Ref
 use Rattle.trace.specs.declared.location.Traced.{Traced}
 
 -- that there is a sound trace; the rest of the answer says which
-pub data Done : Type 0 where
-  done : Done
+pub data Located : Type 0 where
+  located : Located
 
-abbrev pub answerOf : Answer → Result Done
-answerOf Found = accepted done
-answerOf (Refused r) = refusal r
+abbrev pub locatedOf : Answer → Result Located
+locatedOf Found = accepted located
+locatedOf (Refused r) = refusal r
 
 abbrev pub none : List ℕ
 none = replicate attributes 0
 
 -- THE PLACES AND THE VALUES of what Read gives, and an Activity group: all 0 if it refuses
-pub record Outcome : Type 0 where
-  pub answer : Result Done
+pub record Readout : Type 0 where
+  pub answer : Result Located
   pub places : List ℕ
   pub values : List ℕ
   pub activity : Group
 
-abbrev pub found : List ℕ → List ℕ → Group → Outcome
-found places values activity = record { answer = accepted done; places = places; values = values; activity = activity }
+abbrev pub found : List ℕ → List ℕ → Group → Readout
+found places values activity = record { answer = accepted located; places = places; values = values; activity = activity }
 
-abbrev pub stop : ℕ → ℕ → Outcome
+abbrev pub stop : ℕ → ℕ → Readout
 stop k p = record { answer = refused k p; places = none; values = none; activity = noGroupYet }
 
-abbrev pub traced : ℕ → Result Trace → Outcome
+abbrev pub traced : ℕ → Result Trace → Readout
 traced n (accepted t) = found (t .places) (t .values) (counted «MQGACF_ACTIVITY» n (t .rows) .group)
 traced n (refused k p) = stop k p
 
-abbrev pub tracedOf : Traced → Outcome
-tracedOf t = record { answer = answerOf (t .answer); places = t .places; values = t .values; activity = t .activity }
+abbrev pub tracedOf : Traced → Readout
+tracedOf t = record { answer = locatedOf (t .answer); places = t .places; values = t .values; activity = t .activity }
 
 -- 8, by the direct members
-unfoldable pub attributesBy : List ℕ → Part → List Row → Group → Outcome
+unfoldable pub attributesBy : List ℕ → Part → List Row → Group → Readout
 attributesBy sheet m members activity =
     unless (eachOnce sheet members && inRange (valuesAt m (placesOf sheet members))) (stop badAttribute 0)
     (found (placesOf sheet members) (valuesAt m (placesOf sheet members)) activity)
 
 -- 8, by the members of the group whose first one is at `inside`
-abbrev pub attributesIn : List ℕ → Part → ℕ → ℕ → Group → Outcome
+abbrev pub attributesIn : List ℕ → Part → ℕ → ℕ → Group → Readout
 attributesIn sheet m inside members activity = attributesBy sheet m (directIn (rowsIn (walk m inside 2 members))) activity
 
 -- 6, 7, 8, by the TraceRoute groups that were counted
-unfoldable pub judgedIn : List ℕ → Part → Counted → Group → Outcome
+unfoldable pub judgedIn : List ℕ → Part → Counted → Group → Readout
 judgedIn sheet m routes activity =
     unless (traceHeader m) (stop noTraceHeader 0)
     (unless (eqb (routes .count) 1) (stop noTraceRoute 0)

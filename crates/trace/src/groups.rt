@@ -14,7 +14,7 @@ ghost use Rattle.meaning.specs.Walk.{walk};
 ghost use Rattle.meaning.specs.Message.{partOf};
 ghost use Rattle.refusals.specs.Refusals.{refusal};
 ghost use Rattle.structure.specs.Rows.{rowOf};
-ghost use Rattle.trace.specs.Groups.{noGroupYet, noneYet, countRow, Countable, surveyOf, surveyed};
+ghost use Rattle.trace.specs.Groups.{noGroupYet, noneYet, countRow, CountableGroup, surveyOf, surveyed};
 
 // A group: its place, the place of what is inside it, its length with all of that, and how many direct members it has.
 pub struct Group {
@@ -60,7 +60,7 @@ fn none_yet() -> Counted
 
 // One more group, which ends before `behind`: it counts if it has the identifier, and is kept if it is the n-th of those.
 fn count_row(c: Counted, id: u32, n: usize, row: Row, behind: usize) -> Counted
-    requires { ⌜ Countable c (rowOf row) behind ⌝ }
+    requires { ⌜ CountableGroup c (rowOf row) behind ⌝ }
     ensures { λ r. ⌜ r ≡ countRow id n c (rowOf row) behind ⌝ }
 {
     if row.parameter != id {

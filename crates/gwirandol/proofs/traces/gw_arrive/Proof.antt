@@ -2,7 +2,7 @@
 use mathlib.Core.Path.{sym, ap, _∙_, subst}
 use borrow.Author.Needs.{needs}
 use Rattle.codes.specs.Codes.{code, Fits}
-use Rattle.codes.specs.Decisions.{decided}
+use Rattle.codes.specs.Decisions.{decidedNumber}
 use Rattle.meaning.specs.Answer.{Result}
 use Rattle.meaning.specs.Decision.{Decision}
 use Rattle.gwirandol.proofs.Reach.{arrive-fits}
@@ -14,5 +14,5 @@ gw-arrive-spec =
     tie.close
     (tie.spec
     (λ c κs. search needs)
-    (λ c κs. subst (λ (x : Result Decision). Fits (decided x)) (sym (c .arrive .ensures)) (arrive-fits _ _ _))
-    (λ c. c .judged .ensures ∙ ap (λ (x : Result Decision). code (decided x)) (c .before .arrive .ensures)))
+    (λ c κs. subst (λ (x : Result Decision). Fits (decidedNumber x)) (sym (c .arrive .ensures)) (arrive-fits _ _ _))
+    (λ c. c .judged .ensures ∙ ap (λ (x : Result Decision). code (decidedNumber x)) (c .before .arrive .ensures)))

@@ -4,7 +4,7 @@ use mathlib.Core.List.{List}
 use Prim.Native.Nat.{ℕ}
 use borrow.Author.Needs.{needs}
 use Rattle.codes.specs.Codes.{code, Fits}
-use Rattle.codes.specs.Decisions.{decided}
+use Rattle.codes.specs.Decisions.{decidedNumber}
 use Rattle.codes.specs.Options.{optionsIn}
 use Rattle.codes.specs.declared.options.Options.{Options}
 use Rattle.meaning.specs.Answer.{Result}
@@ -25,6 +25,6 @@ gw-forward-spec =
     (tie.spec
     (λ c κs. search needs)
     (λ c κs. search needs)
-    (λ c κs. subst (λ (x : Result Decision). Fits (decided x)) (sym (c .forward .ensures)) (forward-fits _ _ _ _))
+    (λ c κs. subst (λ (x : Result Decision). Fits (decidedNumber x)) (sym (c .forward .ensures)) (forward-fits _ _ _ _))
     (λ c. c .judged .ensures
-    ∙ ap (λ (x : Result Decision). code (decided x)) (by-option _ _ _ _ (c .before .before .options-of .result) _ (c .before .forward .ensures) (c .before .before .options-of .ensures))))
+    ∙ ap (λ (x : Result Decision). code (decidedNumber x)) (by-option _ _ _ _ (c .before .before .options-of .result) _ (c .before .forward .ensures) (c .before .before .options-of .ensures))))

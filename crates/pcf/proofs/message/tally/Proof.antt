@@ -6,7 +6,7 @@ use borrow.Author.Needs.{needs}
 use denote.Ref.{now}
 use Rattle.meaning.specs.Message.{scan, check, tally}
 use Rattle.meaning.specs.Answer.{accepted}
-use Rattle.pcf.specs.Messages.{opened, Tallies, TalliedAs}
+use Rattle.pcf.specs.Messages.{opened, RowsTallied, TalliedAs}
 use Rattle.pcf.specs.declared.message.Tallied.{Tallied}
 use Rattle.pcf.proofs.Openings.{opened-as}
 use Rattle.pcf.proofs.Openings.{opened-sized, scan-opened}
@@ -18,7 +18,7 @@ count : (c : tie.After-known-told2) → opened (now (c .before .before .before .
 count c = opened-as (c .before .before .before .opened .ensures) (c .before .opening2 .given .1)
 
 -- the answer and the counts of the message's rows are those of the message
-said : (buf : List ℕ) (len : ℕ) (t : Tallied) → Tallies (scan buf len) t → TalliedAs buf len t
+said : (buf : List ℕ) (len : ℕ) (t : Tallied) → RowsTallied (scan buf len) t → TalliedAs buf len t
 unfolding check tally
 said buf len t h = record { answer = h .answer; counts = h .counts }
 
