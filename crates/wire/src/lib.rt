@@ -3,16 +3,10 @@
 // listing's text.)
 ghost use mathlib.Core.Path.{_≡_};
 ghost use mathlib.Core.List.{_∷_, []};
-ghost use Prim.Native.Nat.{_+_, _≤_, _<_, _/_, _%_};
+ghost use Prim.Native.Nat.{_+_, _≤_, _/_, _%_};
 ghost use lib.ListN.{length, getD};
 ghost use Rattle.meaning.specs.Bytes.{number, bytes4, splice};
 ghost use Rattle.wire.specs.LeastFirst.{LeastFirst};
-
-fn wide(x: u8) -> u32
-    ensures { λ r. ⌜ (r ≡ x) × (r < 256) ⌝ }
-{
-    x as u32
-}
 
 // The four bytes at `at` as a number, least significant first. The compiler makes one read of a word of this sum before it
 // decides what is compiled into what; of the same sum with the most significant byte first it makes four until then, and what
@@ -21,7 +15,10 @@ fn four_at(s: &[u8], at: usize) -> u32
     requires { ⌜ at + 4 ≤ length (now s) ⌝ }
     ensures { λ r. ⌜ LeastFirst r (getD (now (s .entry)) at 0) (getD (now (s .entry)) (at + 1) 0) (getD (now (s .entry)) (at + 2) 0) (getD (now (s .entry)) (at + 3) 0) ⌝ }
 {
-    wide(s[at]) + wide(s[at + 1]) * 256 + wide(s[at + 2]) * 65536 + wide(s[at + 3]) * 16777216
+    (s[at] as u32)
+        + (s[at + 1] as u32) * 256
+        + (s[at + 2] as u32) * 65536
+        + (s[at + 3] as u32) * 16777216
 }
 
 // The number whose four bytes are those of `x` the other way round. It compiles to one instruction.
