@@ -11,6 +11,7 @@ ghost use Rattle.wire.specs.LeastFirst.{LeastFirst};
 // The four bytes at `at` as a number, least significant first. The compiler makes one read of a word of this sum before it
 // decides what is compiled into what; of the same sum with the most significant byte first it makes four until then, and what
 // reads many numbers would no longer be compiled into its callers.
+// It has no local and calls nothing, for hosts with little stack.
 fn four_at(s: &[u8], at: usize) -> u32
     requires { ⌜ at + 4 ≤ length (now s) ⌝ }
     ensures { λ r. ⌜ LeastFirst r (getD (now (s .entry)) at 0) (getD (now (s .entry)) (at + 1) 0) (getD (now (s .entry)) (at + 2) 0) (getD (now (s .entry)) (at + 3) 0) ⌝ }
