@@ -83,7 +83,7 @@ static void activity(void)
     static gw_done done;
     memcpy(copy, message, sizeof copy);
     uint32_t options = GW_OPTION_REPORTS_ASKED | GW_OPTION_ACTIVITY_RECORDING | GW_OPTION_TRACE_ROUTE_MESSAGING;
-    gw_activity(copy, sizeof copy, length, sheet, options, GW_LEVEL_HIGH, message + 180, group_length, report, sizeof report,
+    gw_activity(copy, sizeof copy, length, sheet, options, GW_LEVEL_LOW, message + 180, group_length, report, sizeof report,
                 &done);
 }
 

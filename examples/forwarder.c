@@ -67,8 +67,9 @@ static void save(const char *name, const uint8_t *bytes, size_t length)
 
 static int compose(const char *name, uint32_t limit)
 {
-    /* low detail, nothing counted yet, accumulated in the message with a reply, to be forwarded to all, not delivered */
-    uint32_t values[GW_ATTRIBUTES] = {GW_MQROUTE_DETAIL_LOW, 0, 0, 0, limit, GW_MQROUTE_ACCUMULATE_AND_REPLY,
+    /* programs and channel agents are to be seen, nothing is counted yet, accumulated in the message with a reply, to be
+     * forwarded to all, not delivered */
+    uint32_t values[GW_ATTRIBUTES] = {GW_MQROUTE_DETAIL_MEDIUM, 0, 0, 0, limit, GW_MQROUTE_ACCUMULATE_AND_REPLY,
                                       GW_MQROUTE_FORWARD_ALL, GW_MQROUTE_DELIVER_NO};
     gw_answer answer = gw_compose(sheet, values, message, sizeof message);
     if (gw_number(answer) != GW_ACCEPTED) {
@@ -135,7 +136,7 @@ static int handle(const char *name, const char *report_name, bool arrived)
 {
     size_t length = load(name);
     gw_done done;
-    /* a program's own activities are of the low level; gw_activity in the header says which levels a Detail records */
+    /* a program's own activities are of the low level, which every Detail records */
     gw_answer answer = gw_activity(message, sizeof message, length, sheet, options, GW_LEVEL_LOW, activity, sizeof activity,
                                    report, sizeof report, &done);
     if (gw_number(answer) != GW_ACCEPTED) {

@@ -29,10 +29,10 @@ extern "C" {
 #endif
 
 #define GW_VERSION_MAJOR 0
-#define GW_VERSION_MINOR 2
+#define GW_VERSION_MINOR 3
 #define GW_VERSION_PATCH 0
 #define GW_VERSION (GW_VERSION_MAJOR * 1000000 + GW_VERSION_MINOR * 1000 + GW_VERSION_PATCH)
-#define GW_VERSION_TEXT "0.2.0"
+#define GW_VERSION_TEXT "0.3.0"
 
 /* THE VERSION of the library that is linked, as GW_VERSION is that of this header.
  *
@@ -154,7 +154,9 @@ enum gw_route {
     GW_MQROUTE_DELIVER_NO = 0x2000
 };
 
-/* THE LEVEL of an activity is a value of Detail: GW_LEVEL_LOW and GW_MQROUTE_DETAIL_LOW are the same number, and so on. */
+/* THE LEVEL of an activity is a value of Detail: GW_LEVEL_LOW and GW_MQROUTE_DETAIL_LOW are the same number, and so on. What
+ * programs do is of the low level, what channel agents do of the medium one; the high one is for what a program tells beyond
+ * that. gw_activity says which levels a Detail records. */
 enum gw_level {
     GW_LEVEL_LOW = 2,
     GW_LEVEL_MEDIUM = 8,
@@ -177,7 +179,7 @@ enum gw_option {
  * behind it stays.
  *
  *     uint32_t values[GW_ATTRIBUTES] = {0};
- *     values[GW_ATTR_DETAIL] = GW_MQROUTE_DETAIL_LOW;
+ *     values[GW_ATTR_DETAIL] = GW_MQROUTE_DETAIL_MEDIUM;
  *     values[GW_ATTR_MAX_ACTIVITIES] = 5;
  *     values[GW_ATTR_ACCUMULATE] = GW_MQROUTE_ACCUMULATE_IN_MSG;
  *     values[GW_ATTR_FORWARD] = GW_MQROUTE_FORWARD_ALL;
@@ -270,14 +272,15 @@ gw_answer gw_discontinuity(uint8_t *buffer, size_t size, size_t length, const ui
  * The lent group is one whole Activity group (8005) of 16 to 65,500 bytes, sound as at the top level, with nothing behind
  * it; any other is 9, whether or not it would be used.
  *
- * An activity whose level is less than Detail is unrecorded, whatever the options are. Of the nine pairs:
+ * An activity whose level is higher than Detail is unrecorded, whatever the options are. The nine pairs:
  *
  *   level             Detail low       Detail medium    Detail high
- *   GW_LEVEL_LOW      as below         unrecorded       unrecorded
- *   GW_LEVEL_MEDIUM   as below         as below         unrecorded
- *   GW_LEVEL_HIGH     as below         as below         as below
+ *   GW_LEVEL_LOW      recordable       recordable       recordable
+ *   GW_LEVEL_MEDIUM   unrecorded       recordable       recordable
+ *   GW_LEVEL_HIGH     unrecorded       unrecorded       recordable
  *
- * A level that is none of the three counts as GW_LEVEL_HIGH. Any activity that the table does not call unrecorded is
+ * A level that is none of the three counts as GW_LEVEL_LOW, so that it is recordable under every Detail. A recordable
+ * activity is
  *
  *   - reported if the options have GW_OPTION_REPORTS_ASKED and GW_OPTION_ACTIVITY_RECORDING: a message, of a header of 36
  *   bytes and the group, is written to the start of the report buffer, and what is behind it stays;
@@ -289,7 +292,7 @@ gw_answer gw_discontinuity(uint8_t *buffer, size_t size, size_t length, const ui
  * appended, 13 only if it is to be reported. No other byte of the buffers changes.
  *
  *     uint32_t options = GW_OPTION_REPORTS_ASKED | GW_OPTION_ACTIVITY_RECORDING | GW_OPTION_TRACE_ROUTE_MESSAGING;
- *     gw_answer applied = gw_activity(buffer, sizeof buffer, length, sheet, options, GW_LEVEL_MEDIUM, group, sizeof group,
+ *     gw_answer applied = gw_activity(buffer, sizeof buffer, length, sheet, options, GW_LEVEL_LOW, group, sizeof group,
  *                                     report, sizeof report, &done);
  *     if (gw_number(applied) == GW_ACCEPTED) {
  *         length = gw_value(applied);

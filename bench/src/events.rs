@@ -76,7 +76,7 @@ impl Stage {
         let event = ffi::Activity {
             // Reports asked for; with activity recording and trace-route messaging.
             options: if on { 1 | 2 | 4 } else { 1 },
-            level: 32,
+            level: 2,
             group: &self.group,
         };
         let mut done = nothing();
@@ -87,7 +87,7 @@ impl Stage {
 
     fn decoder(&mut self, on: bool) -> Result<decoder::Applied, decoder::EventRefusal> {
         let event = Activity {
-            level: Level::High,
+            level: Level::Low,
             group: &self.group,
             reports_asked: true,
             settings: Settings {

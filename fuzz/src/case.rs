@@ -60,7 +60,7 @@ impl Case {
     pub fn events<'a>(&self, group: &'a [u8]) -> [Event<'a>; 3] {
         let bit = |place: u8| self.event >> place & 1 == 1;
         let activity = Event::Activity(Activity {
-            level: [Level::High, Level::Low, Level::Medium, Level::High]
+            level: [Level::Low, Level::Medium, Level::High, Level::Low]
                 [usize::from(self.event % 4)],
             group,
             // Turned round, so that 0 is what does most.
@@ -78,11 +78,11 @@ impl Case {
     }
 }
 
-/// What stands for the high level, and option bits that mean nothing.
+/// What stands for the low level, and option bits that mean nothing.
 fn spare(input: &Input) -> Spare {
-    let highs = [32, 0, 1, 3, 16, 1 << 31, u32::MAX];
+    let lows = [2, 0, 1, 3, 16, 1 << 31, u32::MAX];
     Spare {
-        high: highs[usize::from(input.choice(Choice::High) % 7)],
+        low: lows[usize::from(input.choice(Choice::Low) % 7)],
         bits: match input.choice(Choice::Event) >> 6 {
             0 => 0,
             1 => input.free(),

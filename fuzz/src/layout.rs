@@ -21,8 +21,8 @@ pub enum Choice {
     Report,
     /// Level, settings and order of the events, and option bits that mean nothing.
     Event,
-    /// The number that stands for the high level.
-    High,
+    /// The number that stands for the low level.
+    Low,
     Sheet,
     /// How the sheet is changed.
     Change,

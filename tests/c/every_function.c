@@ -111,20 +111,24 @@ static gw_done entered(uint32_t detail, uint32_t options, uint32_t level)
 
 static void levels(void)
 {
+    const uint32_t every = GW_OPTION_REPORTS_ASKED | GW_OPTION_ACTIVITY_RECORDING | GW_OPTION_TRACE_ROUTE_MESSAGING;
     static const uint32_t details[3] = {GW_MQROUTE_DETAIL_LOW, GW_MQROUTE_DETAIL_MEDIUM, GW_MQROUTE_DETAIL_HIGH};
     static const uint32_t given[3] = {GW_LEVEL_LOW, GW_LEVEL_MEDIUM, GW_LEVEL_HIGH};
-    static const uint32_t others[] = {0, 1, 3, 4, 7, 9, 16, 31, 33, 0x80000002u, UINT32_MAX};
+    /* each level under Detail low, medium and high */
+    static const bool recorded[3][3] = {{true, true, true}, {false, true, true}, {false, false, true}};
+    static const uint32_t others[] = {0, 1, 3, 4, 7, 9, 16, 31, 33, 0x80000008u, UINT32_MAX};
     for (int level = 0; level < 3; level++)
         for (int detail = 0; detail < 3; detail++) {
             expect(given[level] == details[level], "a level is Detail's value");
-            expect(entered(details[detail], GW_OPTION_TRACE_ROUTE_MESSAGING, given[level]).counter
-                       == (level < detail ? GW_ATTR_UNRECORDED_ACTIVITIES : GW_ATTR_RECORDED_ACTIVITIES),
+            gw_done done = entered(details[detail], every, given[level]);
+            expect(done.counter == (recorded[level][detail] ? GW_ATTR_RECORDED_ACTIVITIES : GW_ATTR_UNRECORDED_ACTIVITIES)
+                       && done.appended == recorded[level][detail] && (done.report_length != 0) == recorded[level][detail],
                    "the nine pairs of level and Detail");
         }
-    expect(entered(GW_MQROUTE_DETAIL_MEDIUM, GW_OPTION_TRACE_ROUTE_MESSAGING, 8).appended == 1, "a level of 8 is medium");
-    expect(entered(GW_MQROUTE_DETAIL_HIGH, GW_OPTION_TRACE_ROUTE_MESSAGING, 8).appended == 0, "and not high");
+    expect(entered(GW_MQROUTE_DETAIL_MEDIUM, every, 8).appended == 1, "a level of 8 is medium");
+    expect(entered(GW_MQROUTE_DETAIL_LOW, every, 8).appended == 0, "and not low");
     for (size_t k = 0; k < sizeof others / sizeof others[0]; k++)
-        expect(entered(GW_MQROUTE_DETAIL_HIGH, GW_OPTION_TRACE_ROUTE_MESSAGING, others[k]).appended == 1, "any other number counts as high");
+        expect(entered(GW_MQROUTE_DETAIL_LOW, every, others[k]).appended == 1, "any other number counts as low");
 }
 
 static void options(void)

@@ -6,7 +6,7 @@
                               gw.Attribute.ACCUMULATE: gw.Route.ACCUMULATE_IN_MSG,
                               gw.Attribute.FORWARD: gw.Route.FORWARD_ALL,
                               gw.Attribute.DELIVER: gw.Route.DELIVER_NO})
-    done = trace.activity(group, gw.Level.MEDIUM, gw.Option.TRACE_ROUTE_MESSAGING)
+    done = trace.activity(group, gw.Level.LOW, gw.Option.TRACE_ROUTE_MESSAGING)
     print(gw.listing(trace.message))
 
 A refusal is an exception, Refused, with number, place and words. The loader must find libgwirandol.so.0, for instance by

@@ -58,10 +58,11 @@ static void positions(void)
 
 static void levels(void)
 {
-    expect(activity(trace(GW_ATTR_DETAIL, 8), three, 8).counter == GW_ATTR_RECORDED_ACTIVITIES, "8 is not less than medium");
-    expect(activity(trace(GW_ATTR_DETAIL, 32), three, 8).counter == GW_ATTR_UNRECORDED_ACTIVITIES, "8 is less than high");
-    expect(activity(trace(GW_ATTR_DETAIL, 8), three, 2).counter == GW_ATTR_UNRECORDED_ACTIVITIES, "2 is less than medium");
-    expect(activity(trace(GW_ATTR_DETAIL, 32), three, 32).counter == GW_ATTR_RECORDED_ACTIVITIES, "32 is not less than high");
+    expect(activity(trace(GW_ATTR_DETAIL, 8), three, 2).counter == GW_ATTR_RECORDED_ACTIVITIES, "low is recorded under medium");
+    expect(activity(trace(GW_ATTR_DETAIL, 8), three, 8).counter == GW_ATTR_RECORDED_ACTIVITIES, "and so is medium");
+    expect(activity(trace(GW_ATTR_DETAIL, 2), three, 8).counter == GW_ATTR_UNRECORDED_ACTIVITIES, "but not under low");
+    expect(activity(trace(GW_ATTR_DETAIL, 8), three, 32).counter == GW_ATTR_UNRECORDED_ACTIVITIES, "nor is high under medium");
+    expect(activity(trace(GW_ATTR_DETAIL, 2), three, 0).counter == GW_ATTR_RECORDED_ACTIVITIES, "any other number counts as low");
 }
 
 static void options(void)

@@ -95,8 +95,9 @@ void levels()
     struct Case {
         uint32_t detail, level, counter;
     };
-    for (auto [detail, level, counter] : {Case{8, 8, GW_ATTR_RECORDED_ACTIVITIES}, Case{32, 8, GW_ATTR_UNRECORDED_ACTIVITIES},
-                                          Case{8, 2, GW_ATTR_UNRECORDED_ACTIVITIES}, Case{32, 32, GW_ATTR_RECORDED_ACTIVITIES}}) {
+    for (auto [detail, level, counter] : {Case{8, 2, GW_ATTR_RECORDED_ACTIVITIES}, Case{8, 8, GW_ATTR_RECORDED_ACTIVITIES},
+                                          Case{2, 8, GW_ATTR_UNRECORDED_ACTIVITIES}, Case{8, 32, GW_ATTR_UNRECORDED_ACTIVITIES},
+                                          Case{2, 0, GW_ATTR_RECORDED_ACTIVITIES}}) {
         expect(Trace(GW_ATTR_DETAIL, detail).activity(three, level).counter == counter,
                "detail " + std::to_string(detail) + ", level " + std::to_string(level));
     }

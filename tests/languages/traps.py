@@ -40,6 +40,7 @@ def trace(**changed):
 GROUP = struct.pack(">4I", 20, 16, 8005, 1) + struct.pack(">5I", 4, 28, 3024, 0, 8) + b"python  "
 ALL = gw.Option.REPORTS_ASKED | gw.Option.ACTIVITY_RECORDING | gw.Option.TRACE_ROUTE_MESSAGING
 RECORDED, UNRECORDED = gw.Attribute.RECORDED_ACTIVITIES, gw.Attribute.UNRECORDED_ACTIVITIES
+LOW = gw.Level.LOW
 
 
 def numbers(file):
@@ -70,18 +71,18 @@ def positions():
 
 
 def levels():
-    for detail, level, counter in ((8, 8, RECORDED), (32, 8, UNRECORDED), (8, 2, UNRECORDED), (32, 32, RECORDED)):
+    for detail, level, counter in ((8, 2, RECORDED), (8, 8, RECORDED), (2, 8, UNRECORDED), (8, 32, UNRECORDED), (2, 0, RECORDED)):
         expect(trace(DETAIL=detail).activity(GROUP, level, ALL).counter == counter, f"detail {detail}, level {level}")
 
 
 def options():
     plain, noisy = trace(), trace()
-    expect(plain.activity(GROUP, 8, ALL) == noisy.activity(GROUP, 8, 0xFFFFFFFF), "an activity looks at three bits only")
+    expect(plain.activity(GROUP, LOW, ALL) == noisy.activity(GROUP, LOW, 0xFFFFFFFF), "an activity looks at three bits only")
     expect(plain.message == noisy.message, "and leaves the same message")
     for alone in (0, gw.Option.REPORTS_ASKED, gw.Option.ACTIVITY_RECORDING):
-        silent = trace().activity(GROUP, 8, 0xFFFFFFF8 | alone)
+        silent = trace().activity(GROUP, LOW, 0xFFFFFFF8 | alone)
         expect(silent == gw.Entered(UNRECORDED, False, b""), f"no other bit makes up for what bit {int(alone)} lacks")
-    reported = trace().activity(GROUP, 8, gw.Option.REPORTS_ASKED | gw.Option.ACTIVITY_RECORDING)
+    reported = trace().activity(GROUP, LOW, gw.Option.REPORTS_ASKED | gw.Option.ACTIVITY_RECORDING)
     expect(len(reported.report) == 36 + len(GROUP) and not reported.appended, "two bits report and do not append")
     if_supported = trace(FORWARD=gw.Route.FORWARD_IF_SUPPORTED, DELIVER=gw.Route.DELIVER_NO)
     expect(if_supported.forward(gw.Option.REMOTE_SUPPORTS) == gw.Decision.FORWARD, "forwarding looks at its bit")
@@ -108,7 +109,7 @@ def in_words():
 def messages():
     """The other functions, once each."""
     some = trace()
-    some.activity(GROUP, 8, ALL)
+    some.activity(GROUP, LOW, ALL)
     expect(gw.check(some.message) == 11, "the number of structures")
     expect(gw.tally(some.message)[20] == 2 and gw.tally(some.message)[3] == 8, "the tally")
     expect(gw.listing(some.message).splitlines()[-3:] == ["1 180 20 8005 16", "2 196 4 3024 28", "end 11"], "the listing")

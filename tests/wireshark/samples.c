@@ -176,8 +176,8 @@ static size_t enter(void (*make)(void))
     gw_done done;
     make();
     must(gw_activity(message, sizeof message, length, sheet,
-                     GW_OPTION_REPORTS_ASKED | GW_OPTION_ACTIVITY_RECORDING | GW_OPTION_TRACE_ROUTE_MESSAGING, GW_LEVEL_LOW, group,
-                     made, report, sizeof report, &done),
+                     GW_OPTION_REPORTS_ASKED | GW_OPTION_ACTIVITY_RECORDING | GW_OPTION_TRACE_ROUTE_MESSAGING, GW_LEVEL_MEDIUM,
+                     group, made, report, sizeof report, &done),
          "activity");
     length = done.message_length;
     return done.report_length;
@@ -200,18 +200,18 @@ int main(int argc, char **argv)
         fprintf(stderr, "usage: samples FOLDER\n");
         return 2;
     }
-    compose(GW_LEVEL_LOW);
+    compose(GW_MQROUTE_DETAIL_MEDIUM);
     save(argv[1], "composed", message, length);
 
     gw_done done;
     must(gw_discontinuity(message, sizeof message, length, sheet, &done), "discontinuity");
     save(argv[1], "after a discontinuity", message, length);
 
-    compose(GW_LEVEL_HIGH);
+    compose(GW_MQROUTE_DETAIL_LOW);
     enter(plain);
     save(argv[1], "after an unrecorded activity", message, length);
 
-    compose(GW_LEVEL_LOW);
+    compose(GW_MQROUTE_DETAIL_MEDIUM);
     enter(one_of_each);
     enter(plain);
     save(argv[1], "after two activities", message, length);
@@ -221,12 +221,12 @@ int main(int argc, char **argv)
     enter(plain);
     save(argv[1], "after one more", message, length);
 
-    compose(GW_LEVEL_LOW);
+    compose(GW_MQROUTE_DETAIL_MEDIUM);
     reported = enter(deep);
     save(argv[1], "groups down to depth 8", message, length);
     save(argv[1], "report of groups down to depth 8", report, reported);
 
-    compose(GW_LEVEL_LOW);
+    compose(GW_MQROUTE_DETAIL_MEDIUM);
     reported = enter(between);
     save(argv[1], "members behind groups of groups", message, length);
     save(argv[1], "report of the same", report, reported);

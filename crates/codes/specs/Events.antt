@@ -4,14 +4,14 @@ use mathlib.Core.Path.{_≡_}
 use mathlib.Core.Bool.{cond}
 use mathlib.Core.List.{List, [], _∷_}
 use lib.Dec.{eqb}
-use Rattle.meaning.specs.Names.{«MQROUTE_DETAIL_LOW», «MQROUTE_DETAIL_MEDIUM»}
+use Rattle.meaning.specs.Names.{«MQROUTE_DETAIL_MEDIUM», «MQROUTE_DETAIL_HIGH»}
 use Rattle.meaning.specs.Answer.{accepted, refused}
 use Rattle.meaning.specs.Event.{Level, low, medium, high, Answer, done, denied}
 use Rattle.codes.specs.Codes.{code}
 
--- a level by its number, which is Detail's value for it; what is neither low nor medium is high
+-- a level by its number, which is Detail's value for it; what is neither medium nor high is low
 abbrev pub levelIn : ℕ → Level
-levelIn n = cond (eqb n «MQROUTE_DETAIL_LOW») low (cond (eqb n «MQROUTE_DETAIL_MEDIUM») medium high)
+levelIn n = cond (eqb n «MQROUTE_DETAIL_MEDIUM») medium (cond (eqb n «MQROUTE_DETAIL_HIGH») high low)
 
 -- the message's length; or the refusal: 10, which has no place, has 1 there if a reply is owed
 abbrev pub eventCode : Answer → ℕ

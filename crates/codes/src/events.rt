@@ -1,6 +1,6 @@
 // What an event did, in numbers, and the level of an activity by its number.
 use crate::code::given;
-use attributes::MQROUTE_DETAIL_LOW;
+use attributes::MQROUTE_DETAIL_HIGH;
 use attributes::MQROUTE_DETAIL_MEDIUM;
 use refusals::Refusal;
 use verdict::Answer;
@@ -48,16 +48,17 @@ pub fn told(found: Answer, done: &mut [u64; 4]) -> u64
     }
 }
 
-// A level by its number, which is Detail's value for it; what is neither low nor medium is high.
+// A level by its number, which is Detail's value for it; what is neither medium nor high is low, which every
+// Detail records.
 pub fn level_of(level: u32) -> Level
     ensures { λ r. ⌜ levelOf r ≡ levelIn level ⌝ }
 {
-    if level == MQROUTE_DETAIL_LOW {
-        return Level::Low;
-    }
     if level == MQROUTE_DETAIL_MEDIUM {
-        Level::Medium
-    } else {
+        return Level::Medium;
+    }
+    if level == MQROUTE_DETAIL_HIGH {
         Level::High
+    } else {
+        Level::Low
     }
 }

@@ -10,12 +10,13 @@ use Rattle.meaning.specs.Bytes.{words, whole, store}
 use Rattle.meaning.specs.Answer.{accepted, refused}
 use Rattle.meaning.specs.Trace.{read}
 use Rattle.meaning.specs.Compose.{compose}
-use Rattle.meaning.specs.Event.{State, discontinuity, denied, event}
+use Rattle.meaning.specs.Names.{RecordedActivities, UnrecordedActivities, «MQROUTE_DETAIL_LOW», «MQROUTE_DETAIL_MEDIUM», «MQROUTE_DETAIL_HIGH», «MQROUTE_ACCUMULATE_IN_MSG»}
+use Rattle.meaning.specs.Event.{Level, low, medium, high, Event, State, Done, discontinuity, activity, done, denied, event}
 use Rattle.meaning.specs.Activity.{activityGroup, inMessage, substitute, nameOf}
 use Rattle.meaning.specs.Demand3.{soundTrace, limitOf, limitPlace, larger, Alike}
 use Rattle.meaning.proofs.Stores.{length-store, store-same}
 use Rattle.meaning.proofs.ReadsBack.{madeUp}
-use Rattle.meaning.proofs.Cases.{Told, checks, reads, answers, leaves, names, decides, Case, case, checked, header, traceWith, counting, on, activityWith, rejected, forwarded, definitions}
+use Rattle.meaning.proofs.Cases.{Told, checks, reads, answers, leaves, names, decides, Case, case, checked, header, traceWith, counting, on, lentGroup, activityWith, rejected, forwarded, definitions}
 use Rattle.meaning.specs.Decision.{forward, putLocally, withhold, arrival}
 
 -- structures one behind the other
@@ -75,6 +76,28 @@ replyState = record {
 abbrev fullBuffer : State
 fullBuffer = record { buf = compose madeUp (decoyValues 7) (replicate 180 0) .buffer; len = 180; report = [] }
 
+-- a trace of this Detail that accumulates, and an activity of this level whose report is asked for, both settings on
+abbrev detailed : ℕ → State
+detailed detail = record {
+  buf = compose madeUp (detail ∷ 0 ∷ 0 ∷ 0 ∷ 0 ∷ «MQROUTE_ACCUMULATE_IN_MSG» ∷ 0x100 ∷ 0x1000 ∷ []) (replicate 260 0) .buffer;
+  len = 180;
+  report = replicate 80 0;
+}
+
+abbrev atLevel : Level → Event
+atLevel level =
+    activity (record { level = level; group = lentGroup; reportsAsked = true }) (record { activityRecording = true; traceRouteMessaging = true })
+
+-- recorded, it is appended and reported; unrecorded, neither
+abbrev recorded : Done
+recorded = record { counter = RecordedActivities; appended = true; reportLength = 68; messageLength = 212 }
+
+abbrev unrecorded : Done
+unrecorded = record { counter = UnrecordedActivities; appended = false; reportLength = 0; messageLength = 180 }
+
+abbrev pair : Level → ℕ → Done → Case
+pair level detail outcome = case (on (detailed detail) (atLevel level)) (answers (done outcome))
+
 pub corners : List Case
 corners =
     -- a counter is a direct member of the TraceRoute group, not one of another group
@@ -122,6 +145,16 @@ corners =
     ∷ case (names (nameOf madeUp decoys (length decoys) 1 77)) (names substitute)
     ∷ case (names (inMessage (activityGroup madeUp decoys (length decoys) 0))) (names (inMessage (record { place = 36; length = 100 })))
     ∷ case (names (inMessage (activityGroup madeUp decoys (length decoys) 1))) (names (inMessage (record { place = 0; length = 0 })))
+    -- the nine pairs of level and Detail: unrecorded where the level is the higher one
+    ∷ pair low «MQROUTE_DETAIL_LOW» recorded
+    ∷ pair low «MQROUTE_DETAIL_MEDIUM» recorded
+    ∷ pair low «MQROUTE_DETAIL_HIGH» recorded
+    ∷ pair medium «MQROUTE_DETAIL_LOW» unrecorded
+    ∷ pair medium «MQROUTE_DETAIL_MEDIUM» recorded
+    ∷ pair medium «MQROUTE_DETAIL_HIGH» recorded
+    ∷ pair high «MQROUTE_DETAIL_LOW» unrecorded
+    ∷ pair high «MQROUTE_DETAIL_MEDIUM» unrecorded
+    ∷ pair high «MQROUTE_DETAIL_HIGH» recorded
     ∷ []
 
 -- THE CORNERS

@@ -59,9 +59,9 @@ rank low = «MQROUTE_DETAIL_LOW»
 rank medium = «MQROUTE_DETAIL_MEDIUM»
 rank high = «MQROUTE_DETAIL_HIGH»
 
--- an activity of a lower level than Detail is not recorded
+-- an activity of a higher level than Detail is not recorded
 unfoldable pub unrecordedForLevel : Level → ℕ → Bool
-unrecordedForLevel level detail = ltb (rank level) detail
+unrecordedForLevel level detail = ltb detail (rank level)
 
 -- any other is reported where that is asked for and the manager records activities
 unfoldable pub reported : List ℕ → Activity → Settings → Bool

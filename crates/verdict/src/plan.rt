@@ -61,11 +61,11 @@ pub fn index_of(counter: Counter) -> usize
     }
 }
 
-// An activity is left unrecorded for its level, however it is lent.
+// An activity is left unrecorded for its level, whatever is asked for, if that is higher than Detail.
 fn unrecorded_for_level(level: Level, detail: u32) -> bool
     ensures { λ r. ⌜ r ≡ unrecordedForLevel (levelOf level) detail ⌝ }
 {
-    rank_of(level) < detail
+    detail < rank_of(level)
 }
 
 // An activity that is not skipped is reported, or accumulated, if that is wanted and the queue manager does it.

@@ -92,8 +92,9 @@ fn plan<'a>(values: &Values, event: &Event<'a>) -> Result<Plan<'a>, EventRefusal
 
 /// Whether an activity is reported, accumulated, recorded.
 fn activity_plan<'a>(values: &Values, activity: &Activity<'a>) -> Plan<'a> {
-    // Below the trace's Detail an activity is neither reported nor accumulated.
-    let looked_at = activity.level.value() >= values.detail;
+    // The trace wants all levels up to its Detail, that one included. What lies
+    // above it is neither reported nor accumulated.
+    let looked_at = activity.level.value() <= values.detail;
     let report = looked_at && activity.reports_asked && activity.settings.activity_recording;
     let append = looked_at
         && values.accumulate != ACCUMULATE_NONE

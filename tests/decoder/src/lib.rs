@@ -1,6 +1,6 @@
 //! An independent decoder for the PCF and trace-route rules
-//! (`01-scope.md`), written from that paper alone so that its answers can be
-//! compared with those of the proved library.
+//! (`01-scope.md` and the later requests), written from the papers alone so that
+//! its answers can be compared with those of the proved library.
 //!
 //! Every public function of the decoding modules is total: any bytes, any
 //! length, any place, without panic or overflow. A refusal changes no byte of

@@ -95,6 +95,8 @@ fn events(random: &mut Random, sheet: &Sheet) -> Vec<Step> {
     (0..count).map(|_| step(random, sheet)).collect()
 }
 
+/// Reports and settings are mostly on: many activities that are to be recorded
+/// find no room, and still most of the accepted ones shall be recorded.
 fn step(random: &mut Random, sheet: &Sheet) -> Step {
     if random.chance(25) {
         return Step::Discontinuity;
@@ -102,10 +104,10 @@ fn step(random: &mut Random, sheet: &Sheet) -> Step {
     Step::Activity {
         level: Level::ALL[random.below(3)],
         group: lent_group(random, sheet),
-        reports_asked: random.chance(60),
+        reports_asked: random.chance(70),
         settings: Settings {
-            activity_recording: random.chance(75),
-            trace_route_messaging: random.chance(75),
+            activity_recording: random.chance(85),
+            trace_route_messaging: random.chance(85),
         },
     }
 }

@@ -11,7 +11,14 @@ use crate::attribute::{
 pub fn values(random: &mut Random) -> Values {
     let [recorded, unrecorded, discontinuities] = counters(random);
     let mut values = Values {
-        detail: random.pick(&[DETAIL_LOW, DETAIL_LOW, DETAIL_MEDIUM, DETAIL_HIGH]),
+        // High records every level; the others do not, and so come less often.
+        detail: random.pick(&[
+            DETAIL_LOW,
+            DETAIL_MEDIUM,
+            DETAIL_HIGH,
+            DETAIL_HIGH,
+            DETAIL_HIGH,
+        ]),
         recorded,
         unrecorded,
         discontinuities,

@@ -3,7 +3,7 @@
 use decoder::generate::{assemble, Piece};
 use decoder::{
     sample, Activity, Applied, Counter, EventRefusal, Level, Refusal, Settings, Sheet, Values,
-    ACCUMULATE_NONE, DELIVER_NO, DETAIL_LOW, FORWARD_ALL,
+    ACCUMULATE_IN_MESSAGE, ACCUMULATE_NONE, DELIVER_NO, DETAIL_HIGH, FORWARD_ALL,
 };
 
 /// The rules' made-up sheet.
@@ -11,10 +11,11 @@ pub fn sheet() -> Sheet {
     Sheet::new(sample::MADE_UP)
 }
 
-/// Plain values: low detail, no limit, no accumulation.
+/// Plain values: high detail, so that every level can be recorded; no limit, no
+/// accumulation.
 pub fn plain_values() -> Values {
     Values {
-        detail: DETAIL_LOW,
+        detail: DETAIL_HIGH,
         recorded: 0,
         unrecorded: 0,
         discontinuities: 0,
@@ -25,10 +26,25 @@ pub fn plain_values() -> Values {
     }
 }
 
+/// Plain values, but with accumulation.
+pub fn accumulating() -> Values {
+    Values {
+        accumulate: ACCUMULATE_IN_MESSAGE,
+        ..plain_values()
+    }
+}
+
 /// A composed message under the made-up sheet.
 pub fn composed(values: &Values) -> Vec<u8> {
     let mut buffer = vec![0; 180];
     assert_eq!(decoder::compose(&sheet(), values, &mut buffer), Ok(180));
+    buffer
+}
+
+/// A composed message in a buffer with room behind it.
+pub fn lent(values: &Values, room: usize) -> Vec<u8> {
+    let mut buffer = composed(values);
+    buffer.extend(vec![0xEE; room]);
     buffer
 }
 
@@ -107,10 +123,10 @@ pub fn empty_group() -> Vec<u8> {
     Piece::group(8005, &[]).bytes
 }
 
-/// A high activity with everything on and asked for.
+/// A low activity with everything on and asked for.
 pub fn busy(group: &[u8]) -> Activity<'_> {
     Activity {
-        level: Level::High,
+        level: Level::Low,
         group,
         reports_asked: true,
         settings: Settings {
@@ -120,10 +136,10 @@ pub fn busy(group: &[u8]) -> Activity<'_> {
     }
 }
 
-/// A high activity with nothing on and nothing asked for.
+/// A low activity with nothing on and nothing asked for.
 pub fn idle(group: &[u8]) -> Activity<'_> {
     Activity {
-        level: Level::High,
+        level: Level::Low,
         group,
         reports_asked: false,
         settings: Settings {
@@ -131,6 +147,14 @@ pub fn idle(group: &[u8]) -> Activity<'_> {
             trace_route_messaging: false,
         },
     }
+}
+
+/// The report's header in its nine numbers, then the group.
+pub fn report_of(group: &[u8]) -> Vec<u8> {
+    let words: [u32; 9] = [12, 36, 3, 69, 1, 1, 0, 0, 1];
+    let mut bytes: Vec<u8> = words.iter().flat_map(|x| x.to_be_bytes()).collect();
+    bytes.extend(group);
+    bytes
 }
 
 /// The answer of an event that only raised a counter.

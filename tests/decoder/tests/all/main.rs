@@ -5,6 +5,7 @@ mod event_004;
 mod examples;
 mod generated;
 mod helpers;
+mod levels;
 mod plain;
 mod readings_events;
 mod readings_messages;

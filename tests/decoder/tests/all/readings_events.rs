@@ -1,22 +1,9 @@
-//! Points of the readings about events (section F).
+//! Points of the readings about events (section F); its point 8 has a module of
+//! its own, `levels`.
 
 use crate::helpers::*;
 use decoder::generate::Piece;
 use decoder::*;
-
-fn accumulating() -> Values {
-    Values {
-        accumulate: ACCUMULATE_IN_MESSAGE,
-        ..plain_values()
-    }
-}
-
-/// A composed message in a buffer with room behind it.
-fn lent(values: &Values, room: usize) -> Vec<u8> {
-    let mut buffer = composed(values);
-    buffer.extend(vec![0xEE; room]);
-    buffer
-}
 
 #[test]
 fn recorded_reported_and_appended() {
@@ -38,9 +25,7 @@ fn recorded_reported_and_appended() {
     wanted[180..212].copy_from_slice(&group);
     assert_eq!(buffer, wanted);
     // F11: the report holds the group only, without an embedded header.
-    let words: [u32; 9] = [12, 36, 3, 69, 1, 1, 0, 0, 1];
-    let mut wanted: Vec<u8> = words.iter().flat_map(|x| x.to_be_bytes()).collect();
-    wanted.extend(&group);
+    let mut wanted = report_of(&group);
     wanted.extend([0xDD; 12]);
     assert_eq!(report, wanted);
     assert_eq!(check(&report, 68), Ok(2));
@@ -56,15 +41,16 @@ fn f1_9_before_10_and_for_every_activity() {
     let mut buffer = composed(&full);
     let answer = activity(&mut buffer, 180, &sheet(), &idle(&[]), &mut []);
     assert_eq!(answer, Err(event_refusal(9)));
-    let high = Values {
-        detail: DETAIL_HIGH,
+    // Also for one that is unrecorded for its level.
+    let low = Values {
+        detail: DETAIL_LOW,
         ..plain_values()
     };
-    let low = Activity {
-        level: Level::Low,
+    let high = Activity {
+        level: Level::High,
         ..busy(&[])
     };
-    let answer = activity(&mut composed(&high), 180, &sheet(), &low, &mut []);
+    let answer = activity(&mut composed(&low), 180, &sheet(), &high, &mut []);
     assert_eq!(answer, Err(event_refusal(9)));
     // A discontinuity looks at neither group nor report buffer nor room.
     let mut buffer = composed(&accumulating());
@@ -205,32 +191,6 @@ fn f6_messages_end_at_65536() {
         assert_eq!(answer.is_ok(), accepted, "{size}");
         if !accepted {
             assert_eq!(answer, Err(event_refusal(12)));
-        }
-    }
-}
-
-#[test]
-fn f8_level_against_detail() {
-    let group = empty_group();
-    for detail in [DETAIL_LOW, DETAIL_MEDIUM, DETAIL_HIGH] {
-        for level in Level::ALL {
-            let values = Values {
-                detail,
-                ..accumulating()
-            };
-            let (mut buffer, mut report) = (lent(&values, 16), [0; 52]);
-            let event = Activity {
-                level,
-                ..busy(&group)
-            };
-            let answer = activity(&mut buffer, 180, &sheet(), &event, &mut report);
-            if level.value() < detail {
-                assert_eq!(answer, Ok(counted(Counter::Unrecorded, 180)));
-                assert_eq!(report, [0; 52]);
-            } else {
-                let answer = answer.unwrap();
-                assert_eq!((answer.appended, answer.report_length), (true, 52));
-            }
         }
     }
 }

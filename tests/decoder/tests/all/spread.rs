@@ -62,9 +62,21 @@ fn trace_case(random: &mut Random, spread: &mut Spread) {
     spread.note("name", u8::from(name == Named::Substitute));
 }
 
+/// An activity's level and the trace's Detail as one number: low under low,
+/// medium, high Detail are 0, 1, 2, medium 3 to 5, high 6 to 8.
+fn level_under_detail(event: &Event, detail: u32) -> Option<u8> {
+    let Event::Activity(activity) = event else {
+        return None;
+    };
+    let level = Level::ALL.iter().position(|&x| x == activity.level)?;
+    let detail = [2, 8, 32].iter().position(|&x| x == detail)?;
+    Some((3 * level + detail) as u8)
+}
+
 fn event_case(random: &mut Random, spread: &mut Spread) {
     let case = scenario(random);
     let (mut buffer, mut length, mut report) = (case.buffer, case.length, case.report);
+    let detail = read(&buffer, length, &case.sheet).map_or(0, |values| values.detail);
     for step in &case.events {
         let before = (buffer.clone(), report.clone());
         match apply(&mut buffer, length, &case.sheet, &step.event(), &mut report) {
@@ -74,6 +86,10 @@ fn event_case(random: &mut Random, spread: &mut Spread) {
                 spread.note("appended", u8::from(applied.appended));
                 spread.note("reported", u8::from(applied.report_length > 0));
                 spread.note("counter", applied.counter as u8);
+                if let Some(pair) = level_under_detail(&step.event(), detail) {
+                    let recorded = applied.counter == Counter::Recorded;
+                    spread.note(if recorded { "recorded" } else { "unrecorded" }, pair);
+                }
             }
             Err(refusal) => {
                 assert!(before == (buffer.clone(), report.clone()));
@@ -131,4 +147,9 @@ fn no_answer_is_missing() {
         spread.demand(entry, &[0, 1], 100);
     }
     spread.demand("counter", &[0, 1, 2], 500);
+    // Only levels up to Detail are recorded; any level may be unrecorded.
+    spread.demand("recorded", &[0, 1, 2, 4, 5, 8], 100);
+    spread.demand("unrecorded", &[0, 1, 2, 3, 4, 5, 6, 7, 8], 50);
+    // Most activities are recorded, so that there are many appends and reports.
+    assert!(spread.count("counter", 0) > spread.count("counter", 1));
 }

@@ -8,24 +8,24 @@ const ACTIVITY_RECORDING: u32 = 2;
 const TRACE_ROUTE_MESSAGING: u32 = 4;
 const REMOTE_SUPPORTS: u32 = 8;
 
-/// What a caller is free to give: the number that stands for the high level,
-/// which is 32 or any that is no level, and option bits that mean nothing.
+/// What a caller is free to give: the number that stands for the low level,
+/// which is 2 or any that is no level, and option bits that mean nothing.
 #[derive(Clone, Copy, Debug)]
 pub struct Spare {
-    pub high: u32,
+    pub low: u32,
     pub bits: u32,
 }
 
 impl Spare {
     /// The numbers of the header and no other bits.
-    pub const NONE: Spare = Spare { high: 32, bits: 0 };
+    pub const NONE: Spare = Spare { low: 2, bits: 0 };
 
     /// `enum gw_level`.
     pub fn level(self, level: Level) -> u32 {
         match level {
-            Level::Low => 2,
+            Level::Low => self.low,
             Level::Medium => 8,
-            Level::High => self.high,
+            Level::High => 32,
         }
     }
 

@@ -13,8 +13,8 @@ use std::hint::black_box;
 
 type Outcome = Result<Applied, EventRefusal>;
 
-/// The high level as its number, or as one that counts as it: any but 2 and 8.
-fn high(random: &mut Random) -> u32 {
+/// The low level as its number, or as one that counts as it: any but 8 and 32.
+fn low(random: &mut Random) -> u32 {
     match random.below(4) {
         0 => random.pick(&[
             0,
@@ -31,17 +31,17 @@ fn high(random: &mut Random) -> u32 {
             u32::MAX,
         ]),
         1 => match random.word() {
-            2 | 8 => 32,
+            8 | 32 => 2,
             other => other,
         },
-        _ => 32,
+        _ => 2,
     }
 }
 
 /// Often no other bits than those that are named, else some, or all.
 pub fn spare(random: &mut Random) -> Spare {
     Spare {
-        high: high(random),
+        low: low(random),
         bits: match random.below(4) {
             0 => random.word(),
             1 => random.pick(&[7, 8, 15, 16, 1 << 31, u32::MAX]),

@@ -59,10 +59,10 @@ fn limits() {
     }
 }
 
-/// A high activity, recorded for its report or unrecorded.
+/// A low activity, recorded for its report or unrecorded.
 fn activity(group: &[u8], recorded: bool) -> Event<'_> {
     Event::Activity(Activity {
-        level: Level::High,
+        level: Level::Low,
         group,
         reports_asked: recorded,
         settings: Settings {
