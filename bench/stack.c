@@ -85,6 +85,8 @@ static void activity(void)
     uint32_t options = GW_OPTION_REPORTS_ASKED | GW_OPTION_ACTIVITY_RECORDING | GW_OPTION_TRACE_ROUTE_MESSAGING;
     gw_activity(copy, sizeof copy, length, sheet, options, GW_LEVEL_LOW, message + 180, group_length, report, sizeof report,
                 &done);
+    if (done.appended != 1)
+        abort(); /* what writes most is measured */
 }
 
 static void *call(void *function)

@@ -136,7 +136,7 @@ static int handle(const char *name, const char *report_name, bool arrived)
 {
     size_t length = load(name);
     gw_done done;
-    /* a program's own activities are of the low level, which every Detail records */
+    /* a program's own activities are of the low level, which can be recorded under every Detail */
     gw_answer answer = gw_activity(message, sizeof message, length, sheet, options, GW_LEVEL_LOW, activity, sizeof activity,
                                    report, sizeof report, &done);
     if (gw_number(answer) != GW_ACCEPTED) {

@@ -113,7 +113,12 @@ fn nothing() -> Done {
 fn activity(message: &[u8], on: bool) -> Vec<Contender<'static>> {
     let (mut ours, mut theirs) = (Stage::new(message), Stage::new(message));
     let count = ours.count();
-    assert!(!ours.library(on).0.is_refused() && theirs.decoder(on).is_ok());
+    // A row's name says what is done.
+    let (answer, done) = ours.library(on);
+    assert!(!answer.is_refused());
+    assert_eq!((done.appended, done.report_length > 0), (on.into(), on));
+    let applied = theirs.decoder(on).expect("an accepted activity");
+    assert_eq!((applied.appended, applied.report_length > 0), (on, on));
     vec![
         contender(move || {
             ours.again(count);

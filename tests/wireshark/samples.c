@@ -171,7 +171,8 @@ static void compose(uint32_t detail)
     length = gw_value(answer);
 }
 
-static size_t enter(void (*make)(void))
+/* An activity of level medium, recorded or not. */
+static size_t enter(void (*make)(void), bool recorded)
 {
     gw_done done;
     make();
@@ -179,6 +180,10 @@ static size_t enter(void (*make)(void))
                      GW_OPTION_REPORTS_ASKED | GW_OPTION_ACTIVITY_RECORDING | GW_OPTION_TRACE_ROUTE_MESSAGING, GW_LEVEL_MEDIUM,
                      group, made, report, sizeof report, &done),
          "activity");
+    if ((done.counter == GW_ATTR_RECORDED_ACTIVITIES) != recorded) {
+        fprintf(stderr, "samples: an activity %s recorded\n", recorded ? "is not" : "is");
+        exit(1);
+    }
     length = done.message_length;
     return done.report_length;
 }
@@ -208,26 +213,26 @@ int main(int argc, char **argv)
     save(argv[1], "after a discontinuity", message, length);
 
     compose(GW_MQROUTE_DETAIL_LOW);
-    enter(plain);
+    enter(plain, false);
     save(argv[1], "after an unrecorded activity", message, length);
 
     compose(GW_MQROUTE_DETAIL_MEDIUM);
-    enter(one_of_each);
-    enter(plain);
+    enter(one_of_each, true);
+    enter(plain, true);
     save(argv[1], "after two activities", message, length);
-    size_t reported = enter(operations);
+    size_t reported = enter(operations, true);
     save(argv[1], "after three, the last with operations", message, length);
     save(argv[1], "report of an activity with operations", report, reported);
-    enter(plain);
+    enter(plain, true);
     save(argv[1], "after one more", message, length);
 
     compose(GW_MQROUTE_DETAIL_MEDIUM);
-    reported = enter(deep);
+    reported = enter(deep, true);
     save(argv[1], "groups down to depth 8", message, length);
     save(argv[1], "report of groups down to depth 8", report, reported);
 
     compose(GW_MQROUTE_DETAIL_MEDIUM);
-    reported = enter(between);
+    reported = enter(between, true);
     save(argv[1], "members behind groups of groups", message, length);
     save(argv[1], "report of the same", report, reported);
     return 0;

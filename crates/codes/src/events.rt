@@ -48,8 +48,8 @@ pub fn told(found: Answer, done: &mut [u64; 4]) -> u64
     }
 }
 
-// A level by its number, which is Detail's value for it; what is neither medium nor high is low, which every
-// Detail records.
+// A level by its number, which is Detail's value for it; what is neither medium nor high is low, which can be recorded under
+// every Detail.
 pub fn level_of(level: u32) -> Level
     ensures { λ r. ⌜ levelOf r ≡ levelIn level ⌝ }
 {

@@ -61,7 +61,7 @@ pub fn index_of(counter: Counter) -> usize
     }
 }
 
-// An activity is left unrecorded for its level, whatever is asked for, if that is higher than Detail.
+// An activity whose level is higher than Detail is left unrecorded, whatever is asked for.
 fn unrecorded_for_level(level: Level, detail: u32) -> bool
     ensures { λ r. ⌜ r ≡ unrecordedForLevel (levelOf level) detail ⌝ }
 {

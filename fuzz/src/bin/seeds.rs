@@ -8,8 +8,9 @@ use fuzz::layout::{Choice, Input};
 use std::path::Path;
 use std::{env, fs, io};
 
-/// Detail low, nothing counted, no limit; accumulated in the message.
-const VALUES: [u32; 8] = [2, 0, 0, 0, 0, 0x10004, 0x100, 0x2000];
+/// Detail medium, so that two levels can be recorded and one cannot; nothing
+/// counted, no limit; accumulated in the message.
+const VALUES: [u32; 8] = [8, 0, 0, 0, 0, 0x10004, 0x100, 0x2000];
 
 fn composed(sheet: [u32; 8], values: [u32; 8]) -> Vec<u8> {
     let mut message = vec![0; 180];
