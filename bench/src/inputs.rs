@@ -111,7 +111,9 @@ fn interleaved(length: usize) -> Vec<u8> {
     let name = Piece::string(APPLICATION, b"deep");
     let behind = Piece::string(3002, b"more");
     let inner = Piece::group(8006, std::slice::from_ref(&name));
-    let chain = (3..9).fold(inner, |inner, _| Piece::group(8006, &[inner, behind.clone()]));
+    let chain = (3..9).fold(inner, |inner, _| {
+        Piece::group(8006, &[inner, behind.clone()])
+    });
     fill(length, &Piece::group(8005, &[name, chain, behind]))
 }
 
