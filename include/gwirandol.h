@@ -29,10 +29,10 @@ extern "C" {
 #endif
 
 #define GW_VERSION_MAJOR 0
-#define GW_VERSION_MINOR 3
+#define GW_VERSION_MINOR 4
 #define GW_VERSION_PATCH 0
 #define GW_VERSION (GW_VERSION_MAJOR * 1000000 + GW_VERSION_MINOR * 1000 + GW_VERSION_PATCH)
-#define GW_VERSION_TEXT "0.3.0"
+#define GW_VERSION_TEXT "0.4.0"
 
 /* THE VERSION of the library that is linked, as GW_VERSION is that of this header.
  *
@@ -318,13 +318,16 @@ typedef struct gw_part {
 void gw_activity_group(const uint8_t *buffer, size_t size, size_t length, const uint32_t sheet[8], size_t n, gw_part *part);
 
 /* A NAMED STRING: the first direct string with the identifier in the n-th Activity group. True, and the part of the message
- * that it is, without its trailing blanks; or false, and the part as it was: there is no such string, or message or sheet is
- * refused as in gw_read, and the caller takes its substitute.
+ * that it is, without its trailing blanks and zero bytes, in any mixture; or false, and the part as it was: there is no such
+ * string, or message or sheet is refused as in gw_read, and the caller takes its substitute, whole. A string of nothing but
+ * blanks and zero bytes is there, with length 0. Before another byte they stay: a name may have zero bytes in it, so that the
+ * part's length tells where it ends, and nothing else.
  *
  *     if (gw_named_string(buffer, sizeof buffer, length, sheet, 0, 3012, &part))
- *         printf("%.*s\n", (int)part.length, (const char *)buffer + part.place);
+ *         fwrite(buffer + part.place, 1, (size_t)part.length, stdout);
  *     else
- *         printf("unknown\n"); */
+ *         printf("unknown");
+ *     printf("\n"); */
 bool gw_named_string(const uint8_t *buffer, size_t size, size_t length, const uint32_t sheet[8], size_t n,
                      uint32_t identifier, gw_part *part);
 

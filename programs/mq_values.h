@@ -295,7 +295,8 @@ static inline const struct mqn_value *mqn_value_of(enum mqn_set set, uint32_t va
     return NULL;
 }
 
-/* A format name of a message descriptor: its text without trailing blanks, IBM's constant, and its meaning in words. */
+/* A format name of a message descriptor: its text without trailing blanks or zero bytes, IBM's constant, and its meaning in
+ * words. */
 struct mqn_format {
     const char *text;
     const char *constant;
@@ -318,7 +319,7 @@ static const struct mqn_format mqn_formats[] = {
     {"MQXMIT", "MQFMT_XMIT_Q_HEADER", "transmission queue header"}
 };
 
-/* The table's row of a format name, trailing blanks removed, or a null pointer. */
+/* The table's row of a format name, trailing blanks and zero bytes removed, or a null pointer. */
 static inline const struct mqn_format *mqn_format_of(const void *text, size_t length)
 {
     for (size_t i = 0; i < sizeof mqn_formats / sizeof mqn_formats[0]; i++) {

@@ -37,10 +37,10 @@ static void show_integer_64(const struct message *m, size_t place)
     printf("%s%" PRIu64, negative ? "-" : "", negative ? 0 - value : value);
 }
 
-/* How much of a text is left without its trailing blanks. */
+/* How much of a text is left without its trailing blanks and zero bytes, which clients fill a name with. */
 static size_t trimmed(const struct message *m, size_t place, size_t length)
 {
-    while (length > 0 && m->bytes[place + length - 1] == ' ') {
+    while (length > 0 && (m->bytes[place + length - 1] == ' ' || m->bytes[place + length - 1] == '\0')) {
         length--;
     }
     return length;
@@ -51,8 +51,9 @@ static bool is_printable(uint8_t byte)
     return byte >= 0x20 && byte < 0x7F;
 }
 
-/* Text without its trailing blanks. A byte that is no printable ASCII is shown as \xNN, and a backslash or a quote has a
- * backslash before it, so that two texts never look alike. Gives the number of characters shown. */
+/* Text without its trailing blanks and zero bytes. A byte that is no printable ASCII is shown as \xNN, and a backslash or a
+ * quote has a backslash before it, so that two texts that differ before their end never look alike. Gives the number of
+ * characters shown. */
 size_t show_plain(const struct message *m, size_t place, size_t length)
 {
     size_t shown = 0;
@@ -70,12 +71,13 @@ size_t show_plain(const struct message *m, size_t place, size_t length)
     return shown;
 }
 
-/* Text in quotes. Where it has bytes that are not printable, its character set is named: it may be EBCDIC. */
+/* Text in quotes. Where what is shown has bytes that are not printable, its character set is named: it may be EBCDIC. */
 static void show_text(const struct message *m, size_t place, size_t length, uint32_t character_set)
 {
     printf("'");
     show_plain(m, place, length);
     printf("'");
+    length = trimmed(m, place, length);
     for (size_t i = 0; i < length; i++) {
         if (!is_printable(m->bytes[place + i]) && character_set != 0) {
             printf(" (character set %" PRIu32 ")", character_set);

@@ -1,5 +1,5 @@
 /* One line for each activity: its number, the queue manager, the application, the operations, and the first operation's date
- * and time. A dash stands for what is not there. */
+ * and time. A dash stands for what is not there, or empty. */
 #include "show_trace.h"
 
 #include <inttypes.h>

@@ -19,7 +19,7 @@ static const uint32_t sheet[GW_ATTRIBUTES] = GW_IBM_SHEET;
 static const uint32_t values[GW_ATTRIBUTES] = {GW_MQROUTE_DETAIL_LOW, 0, 0, 0, 2, GW_MQROUTE_ACCUMULATE_AND_REPLY,
                                                GW_MQROUTE_FORWARD_ALL, GW_MQROUTE_DELIVER_NO};
 
-/* An Activity group of one string, 3012, "hop 1" and blanks. */
+/* An Activity group of one string, 3012, "hop 1" and blanks, from byte 36 on. */
 static const uint8_t group[] = {
     0, 0, 0, 20, 0, 0, 0, 16, 0, 0, 0x1f, 0x45, 0, 0, 0, 1,
     0, 0, 0, 4,  0, 0, 0, 28, 0, 0, 0x0b, 0xc4, 0, 0, 0, 0, 0, 0, 0, 8, 'h', 'o', 'p', ' ', '1', ' ', ' ', ' '};
@@ -97,6 +97,31 @@ static void events(void)
     expect(gw_named_string(message, sizeof message, length, sheet, 0, 3012, &part) && part.length == 5 && memcmp(message + part.place, "hop 1", 5) == 0, "a name");
     expect(gw_discontinuity(message, sizeof message, length, sheet, &done) == length * 32 && done.counter == GW_ATTR_DISCONTINUITY_COUNT, "a discontinuity is counted");
     expect(gw_discontinuity(message, sizeof message, length, sheet, &done) == 32 + GW_REFUSED_MAX_ACTIVITIES, "the limit is reached, and a reply is owed");
+}
+
+/* Eight bytes of a string's structure: the first of them are its data, and the first of these its name. */
+static void names(void)
+{
+    static const struct { char bytes[9]; uint8_t data, name; } strings[] = {
+        {"        ", 8, 0}, {"\0\0\0\0\0\0\0\0", 8, 0}, {" \0\0 \0  \0", 8, 0}, {"A \0 \0\0 \0", 8, 1},
+        {"A\0B\0 \0  ", 8, 3}, {"A B \0  \0", 8, 3}, {"\0 A\0\0\0\0\0", 8, 3}, {" \0 \0 \0 A", 8, 8},
+        {"A\x1f\0 \x21   ", 8, 5}, {"AAAAAAAA", 0, 0}, {"A  AAAAA", 3, 1}, {"A\0\0AAAAA", 3, 1}};
+    const uint32_t recorded = GW_OPTION_ACTIVITY_RECORDING | GW_OPTION_TRACE_ROUTE_MESSAGING;
+    for (size_t k = 0; k < sizeof strings / sizeof strings[0]; k++) {
+        static uint8_t named[sizeof group], trace[400];
+        gw_done done;
+        gw_part part = {7, 7};
+        memcpy(named, group, sizeof group);
+        named[35] = strings[k].data;
+        memcpy(named + 36, strings[k].bytes, 8);
+        composed(GW_ATTR_DETAIL, GW_MQROUTE_DETAIL_LOW, trace, sizeof trace);
+        gw_answer answer = gw_activity(trace, sizeof trace, 180, sheet, recorded, GW_LEVEL_LOW, named, sizeof named, report, sizeof report, &done);
+        expect(gw_number(answer) == 0 && done.appended == 1, "a group is appended, whatever is in its strings");
+        expect(gw_named_string(trace, sizeof trace, 180 + sizeof named, sheet, 0, 3012, &part), "a string is there, whatever its bytes");
+        expect(part.place == 216 && part.length == strings[k].name, "a name ends before its trailing blanks and zero bytes");
+        expect(!gw_named_string(trace, sizeof trace, 180 + sizeof named, sheet, 0, 3013, &part), "a string of another name is not");
+        expect(part.place == 216 && part.length == strings[k].name, "and the part stays");
+    }
 }
 
 /* What an activity with these options and this level does to a trace of this Detail. */
@@ -202,6 +227,7 @@ int main(void)
     traces();
     forwarding();
     events();
+    names();
     levels();
     options();
     feedbacks();

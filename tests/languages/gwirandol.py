@@ -274,7 +274,7 @@ class Trace:
         return self._bytes_of(part)
 
     def name(self, n, identifier, substitute=b""):
-        """A string of the n-th Activity group without its trailing blanks, or the substitute."""
+        """A string of the n-th Activity group without its trailing blanks and zero bytes, or the substitute, whole."""
         part = Part()
         return self._bytes_of(part) if _named_string(*self._lend(), n, identifier, byref(part)) else substitute
 

@@ -36,8 +36,8 @@ def trace(**changed):
     return gw.Trace.compose(values(**changed))
 
 
-# An Activity group (8005) of one string, 3024, "python" and blanks.
-GROUP = struct.pack(">4I", 20, 16, 8005, 1) + struct.pack(">5I", 4, 28, 3024, 0, 8) + b"python  "
+# An Activity group (8005) of one string, 3024, "python", a blank and a zero byte.
+GROUP = struct.pack(">4I", 20, 16, 8005, 1) + struct.pack(">5I", 4, 28, 3024, 0, 8) + b"python \0"
 ALL = gw.Option.REPORTS_ASKED | gw.Option.ACTIVITY_RECORDING | gw.Option.TRACE_ROUTE_MESSAGING
 RECORDED, UNRECORDED = gw.Attribute.RECORDED_ACTIVITIES, gw.Attribute.UNRECORDED_ACTIVITIES
 LOW = gw.Level.LOW
@@ -116,7 +116,7 @@ def messages():
     expect(gw.step(some.message, 180).next == 196, "one structure")
     expect(some.arrive() == gw.Decision.PUT, "arrival")
     expect(some.activity_group(0) == GROUP and some.activity_group(1) == b"", "Activity groups")
-    expect(some.name(0, 3024) == b"python" and some.name(0, 3025, b"none") == b"none", "names")
+    expect(some.name(0, 3024) == b"python" and some.name(0, 3025, b"none \0 ") == b"none \0 ", "names")
     cut = refusal(gw.check, some.message[:100])
     expect((cut.number, cut.place) == (gw.Refusal.STRUCTURE, 100), "a refusal's place")
     expect(refusal(gw.check, b"").number == gw.Refusal.LENGTH, "no bytes at all")

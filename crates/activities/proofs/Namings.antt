@@ -7,7 +7,8 @@ use native.Mathlib.Omega.{arith}
 use lib.ListN.{length, getD, take, drop, length-take, length-drop, List·getD-eq-default}
 use lib.Seq.{length-take-le, getD-drop}
 use lib.Dec.{ltb, eqb}
-use borrow.Author.Tests.{ltb-true, ltb-false, eqb-true, eq-eqb, ne-eqb}
+use borrow.Author.Tests.{ltb-true, ltb-false, eqb-true}
+use denote.Ref.{RefT}
 use Rattle.meaning.specs.Bytes.{Part, number, num}
 use Rattle.meaning.specs.Names.{«MQCFT_STRING», «MQGACF_ACTIVITY»}
 use Rattle.meaning.specs.Answer.{Result, accepted, refused, andThen, consIf}
@@ -15,18 +16,20 @@ use Rattle.meaning.specs.Structure.{Row}
 use Rattle.meaning.specs.Walk.{Walked, walked, walk}
 use Rattle.meaning.specs.Message.{partOf, parameterCount}
 use Rattle.meaning.specs.Trace.{Terms, Trace, Top, activities, directIn, named, readTrace}
-use Rattle.meaning.specs.Activity.{Span, bytesIn, noGroup, nthActivity, strings, Name, inMessage, substitute, stringAt, trimmedAt, firstName, isPad, trimmed, nameOf}
+use Rattle.meaning.specs.Activity.{Span, bytesIn, noGroup, nthActivity, strings, Name, inMessage, substitute, stringAt, trimmedAt, firstName, isPad, trimmed, nameOf, nameBytes}
 use Rattle.meaning.proofs.Tests.{clash, and-true}
 use Rattle.meaning.proofs.Structures.{row-at}
 use Rattle.meaning.proofs.Walks.{walks, here, there, in-nil}
 use Rattle.meaning.proofs.Parts.{row-kind, row-parameter}
 use Rattle.meaning.proofs.Fuel.{walk-zero}
 use Rattle.meaning.proofs.Sound.{Sound, sound}
-use Rattle.meaning.proofs.Strings.{string-data, walks-data, trim-pad, trim-other, take-last, trim-le}
+use Rattle.meaning.proofs.Lists.{take-last}
+use Rattle.meaning.proofs.Strings.{string-data, walks-data}
+use Rattle.meaning.proofs.Trimmed.{trim-pad, trim-other, trim-le}
 use Rattle.trace.specs.Passing.{isSound, Known}
 use Rattle.trace.specs.Groups.{wholeGroup, counted}
 use Rattle.trace.specs.Locations.{Located, located, Readout, traced}
-use Rattle.activities.specs.Naming.{firstData, stringIn}
+use Rattle.activities.specs.Naming.{firstData, stringIn, Gives}
 use Rattle.trace.specs.declared.groups.Group.{Group}
 use Rattle.trace.proofs.Turns.{Over, walk-over}
 use Rattle.trace.proofs.Skipping.{sound-next}
@@ -110,7 +113,7 @@ first-of : (P : Row → Type 0) (m : Part) (rows : List Row) (s : Span) → Ever
 first-of P m [] s h e = absurd (clash (cc))
 first-of P m (r ∷ rs) s h e = (r, h r (here refl), cc)
 
--- TRAILING BLANKS of the first n bytes from a place on
+-- THE LAST of the first n bytes from a place on: the name ends there, or before it
 module _ (buf : List ℕ) (place n : ℕ) (some : 0 < n) (h : place + n ≤ length buf) where
   room : n ≤ length (drop place buf)
   room = omega (arith, length-drop place buf)
@@ -118,15 +121,13 @@ module _ (buf : List ℕ) (place n : ℕ) (some : 0 < n) (h : place + n ≤ leng
   last-byte : take n (drop place buf) ≡ take (n - 1) (drop place buf) ++ (getD buf (place + (n - 1)) 0 ∷ [])
   last-byte = rw (← getD-drop place buf (n - 1) 0) (take-last (drop place buf) n some room)
 
-  pub kept-stop : (getD buf (place + (n - 1)) 0 ≡ 0x20 → ⊥) → length (trimmed (take n (drop place buf))) ≡ n
-  unfolding isPad
-  kept-stop d =
-      ap (λ (l : List ℕ). length (trimmed l)) last-byte ∙ ap length (trim-other (take (n - 1) (drop place buf)) _ (ne-eqb (getD buf (place + (n - 1)) 0) 0x20 d))
-      ∙ ap length (sym last-byte) ∙ length-take-le n (drop place buf) room
+  pub kept-stop : isPad (getD buf (place + (n - 1)) 0) ≡ false → length (trimmed (take n (drop place buf))) ≡ n
+  kept-stop e =
+      ap (λ (l : List ℕ). length (trimmed l)) last-byte ∙ ap length (trim-other (take (n - 1) (drop place buf)) _ e ∙ sym last-byte)
+      ∙ length-take-le n (drop place buf) room
 
-  pub kept-next : getD buf (place + (n - 1)) 0 ≡ 0x20 → trimmed (take n (drop place buf)) ≡ trimmed (take (n - 1) (drop place buf))
-  unfolding isPad
-  kept-next e = ap trimmed last-byte ∙ trim-pad (take (n - 1) (drop place buf)) _ (eq-eqb (getD buf (place + (n - 1)) 0) 0x20 e)
+  pub kept-next : isPad (getD buf (place + (n - 1)) 0) ≡ true → trimmed (take n (drop place buf)) ≡ trimmed (take (n - 1) (drop place buf))
+  kept-next e = ap trimmed last-byte ∙ trim-pad (take (n - 1) (drop place buf)) _ e
 
 pub kept-none : (buf : List ℕ) (place n : ℕ) → n ≤ 0 → length (trimmed (take n (drop place buf))) ≡ 0
 unfolding trimmed
@@ -243,3 +244,8 @@ name-in tm buf len n id s e = go (traced n (readTrace tm buf len) .answer) refl
     go (refused k p) f =
         let z : substitute ≡ inMessage s = name-lost tm buf len n id (traced n (readTrace tm buf len)) refl k p f ∙ e in
         absurd (clash (cc))
+
+-- WHAT IS GIVEN has the bytes of the name
+pub gives-bytes : (msg other r : RefT (List ℕ)) (x : Name) → Gives msg other x r → r .now ≡ nameBytes (msg .now) (other .now) x
+gives-bytes msg other r (inMessage s) g = g .bytes
+gives-bytes msg other r substitute g = ap (λ (y : RefT (List ℕ)). y .now) g

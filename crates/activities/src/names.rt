@@ -1,4 +1,4 @@
-// Named strings in an Activity group, without their trailing blanks.
+// Named strings in an Activity group, without their trailing blanks and zero bytes.
 use crate::group::Span;
 use trace::Answer;
 use trace::behind;
@@ -9,15 +9,16 @@ ghost use Prim.Native.Nat.{_+_, _≤_};
 ghost use lib.ListN.{length, take, drop};
 ghost use Rattle.meaning.specs.Walk.{walk};
 ghost use Rattle.meaning.specs.Message.{partOf};
-ghost use Rattle.meaning.specs.Activity.{trimmed, nameOf};
+ghost use Rattle.meaning.specs.Activity.{isPad, trimmed, nameOf};
 ghost use Rattle.attributes.specs.Terms.{termsOf};
 ghost use Rattle.trace.specs.Passing.{Known};
 ghost use Rattle.activities.specs.Naming.{namedIn, stringIn, Gives};
 
 const MQCFT_STRING: u32 = 4;
 
-// A blank, which a name does not end with.
 const BLANK: u8 = 0x20;
+
+const ZERO: u8 = 0x00;
 
 // A part of the message, or the lent substitute whole.
 pub enum Named {
@@ -25,7 +26,14 @@ pub enum Named {
     Substitute,
 }
 
-// How many of the bytes from `place` on, `size` of them, are left without trailing blanks.
+// A byte that a name does not end with.
+fn is_pad(byte: u8) -> bool
+    ensures { λ r. ⌜ r ≡ isPad byte ⌝ }
+{
+    (byte == BLANK) | (byte == ZERO)
+}
+
+// How many of the bytes from `place` on, `size` of them, are left without the trailing blanks and zero bytes.
 fn kept(msg: &[u8], place: usize, size: usize) -> usize
     requires { ⌜ place + size ≤ length (now msg) ⌝ }
     ensures { λ r. ⌜ r ≡ length (trimmed (take size (drop place (now (msg .entry))))) ⌝ }
@@ -33,7 +41,7 @@ fn kept(msg: &[u8], place: usize, size: usize) -> usize
     let mut n = size;
     while 0 < n {
         let last = n - 1;
-        if msg[place + last] != BLANK {
+        if !is_pad(msg[place + last]) {
             return n;
         }
         n = last;
@@ -62,8 +70,8 @@ fn first_string(msg: &[u8], len: usize, place: usize, count: u32, id: u32) -> Na
     Named::Substitute
 }
 
-// Where the first direct string with the identifier in the n-th Activity group is, without its trailing blanks; the
-// substitute, if message or sheet is refused as in Read or there is no such string.
+// Where the first direct string with the identifier in the n-th Activity group is, without its trailing blanks and zero bytes;
+// the substitute, if message or sheet is refused as in Read or there is no such string.
 pub fn name_span(msg: &[u8], len: usize, sheet: [u32; 8], n: usize, id: u32) -> Named
     ensures { λ r. ⌜ namedIn r ≡ nameOf (termsOf sheet) (now (msg .entry)) len n id ⌝ }
 {

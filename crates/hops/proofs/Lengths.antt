@@ -11,15 +11,16 @@ use Rattle.meaning.specs.Answer.{accepted}
 use Rattle.meaning.specs.Structure.{Row, structureAt}
 use Rattle.meaning.specs.Message.{partOf}
 use Rattle.meaning.specs.Trace.{directIn, named}
-use Rattle.meaning.specs.Activity.{Span, bytesIn, sizeOf, strings, stringAt, firstName, trimmed}
+use Rattle.meaning.specs.Activity.{Span, bytesIn, sizeOf, strings, stringAt, firstName, trimmed, nameBytes}
 use Rattle.meaning.specs.Listing.{blank}
 use Rattle.meaning.proofs.Structures.{Match, row-at, structure-match}
 use Rattle.meaning.proofs.Walks.{Walks, none, more, here, there, in-nil, in-cases}
-use Rattle.meaning.proofs.Strings.{string-data, trim-le}
+use Rattle.meaning.proofs.Strings.{string-data}
+use Rattle.meaning.proofs.Trimmed.{trim-le}
 use Rattle.meaning.proofs.Decimals.{decimal-most, column-ten, length-column}
 use Rattle.trace.proofs.Marking.{Every, every-named, every-direct}
 use Rattle.activities.proofs.Namings.{every-string}
-use Rattle.hops.specs.Hops.{noName, nameBytes, hopLine}
+use Rattle.hops.specs.Hops.{noName, hopLine}
 use Rattle.hops.proofs.Names.{length-shown}
 
 -- THE DATA of a string are shorter than the string

@@ -6,10 +6,9 @@ use native.Mathlib.Omega.{arith}
 use lib.ListN.{length, drop, length-take, length-drop}
 use denote.Ref.{RefT}
 use Rattle.meaning.specs.Trace.{Terms}
-use Rattle.meaning.specs.Activity.{Span, bytesIn, activityGroup, Name, inMessage, substitute, nameOf}
+use Rattle.meaning.specs.Activity.{Span, bytesIn, activityGroup, nameOf, nameBytes}
 use Rattle.activities.specs.Spans.{SliceAt}
-use Rattle.activities.specs.Naming.{Gives}
-use Rattle.hops.specs.Hops.{noName, nameBytes, hopLine, hopOf}
+use Rattle.hops.specs.Hops.{noName, hopLine, hopOf}
 
 -- a part that ends in the message is as long as its span says
 part-length : (buf : List ℕ) (s : Span) → s .place + s .length ≤ length buf → length (bytesIn buf s) ≡ s .length
@@ -20,11 +19,6 @@ pub group-length : (tm : Terms) (msg r : RefT (List ℕ)) (n place : ℕ) → Sl
     → place ≡ activityGroup tm (msg .now) (length (msg .now)) n .place → place + activityGroup tm (msg .now) (length (msg .now)) n .length ≤ length (msg .now)
     → length (r .now) ≡ activityGroup tm (msg .now) (length (msg .now)) n .length
 group-length tm msg r n place g e h = ap length (g .bytes) ∙ part-length (msg .now) (activityGroup tm (msg .now) (length (msg .now)) n) (omega arith)
-
--- THE NAME that was handed out, or the substitute
-pub name-given : (msg other r : RefT (List ℕ)) (x : Name) → other .now ≡ noName → Gives msg other x r → r .now ≡ nameBytes (msg .now) noName x
-name-given msg other r (inMessage s) e g = g .bytes
-name-given msg other r substitute e g = ap (λ (y : RefT (List ℕ)). y .now) g ∙ e
 
 -- THE LINE of the n-th Activity group, of these parts
 pub line-is : (tm : Terms) (msg : List ℕ) (id n place size : ℕ) (name : List ℕ) → place ≡ activityGroup tm msg (length msg) n .place

@@ -13,7 +13,7 @@ use Rattle.meaning.specs.Answer.{Result, accepted, when, consIf}
 use Rattle.meaning.specs.Structure.{Row, structureAt}
 use Rattle.meaning.specs.Message.{partOf, parameterCount, step}
 use Rattle.meaning.specs.Trace.{Terms, Trace, Top, isTop, isGroup, groupsIn, groups, tops, activities, named, directIn, readTrace}
-use Rattle.meaning.specs.Activity.{Span, sizeOf, spanOf, noGroup, nthActivity, activityGroup, strings, firstName, nameOf}
+use Rattle.meaning.specs.Activity.{Span, sizeOf, spanOf, noGroup, nthActivity, activityGroup, strings, firstName, nameOf, nameBytes}
 use Rattle.meaning.proofs.Tests.{clash}
 use Rattle.meaning.proofs.Structures.{row-at}
 use Rattle.meaning.proofs.Parts.{num-part}
@@ -24,7 +24,7 @@ use Rattle.meaning.proofs.Attributes.{groups-more, groups-same}
 use Rattle.meaning.proofs.Spans.{tiles-size}
 use Rattle.meaning.proofs.Sound.{Sound, sound, length-ok}
 use Rattle.reader.specs.Reading.{nthTop}
-use Rattle.hops.specs.Hops.{noName, nameBytes, hopOf}
+use Rattle.hops.specs.Hops.{noName, hopOf}
 use Rattle.hops.specs.Groups.{spotIn}
 use Rattle.hops.specs.declared.groups.Spot.the-variants.{Activity, Other}
 use Rattle.hops.proofs.Lengths.{name-short, line-most}

@@ -6,7 +6,7 @@ use lib.ListN.{length}
 use lib.Dec.{leb}
 use Rattle.meaning.specs.Answer.{Result, accepted, refused}
 use Rattle.meaning.specs.Trace.{Terms, Trace, activities, readTrace}
-use Rattle.meaning.specs.Activity.{bytesIn, activityGroup, Name, inMessage, substitute, nameOf}
+use Rattle.meaning.specs.Activity.{activityGroup, nameOf, nameBytes}
 use Rattle.meaning.specs.Listing.{ascii, blank, newline, column, endLine, refusalLine}
 
 -- what is written for a byte of a name: a printable one is itself, every other one is a dot
@@ -20,11 +20,6 @@ shown (x ∷ xs) = shownByte x ∷ shown xs
 -- what stands for a name that is not there
 abbrev pub noName : List ℕ
 noName = ascii "-"
-
--- the bytes of a name, or of what stands for it
-abbrev pub nameBytes : List ℕ → List ℕ → Name → List ℕ
-nameBytes msg other (inMessage s) = bytesIn msg s
-nameBytes msg other substitute = other
 
 -- number, place, length, name
 unfoldable pub hopLine : ℕ → ℕ → ℕ → List ℕ → List ℕ

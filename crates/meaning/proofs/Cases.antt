@@ -26,6 +26,7 @@ pub data Told : Type 0 where
   answers : Answer → Told
   leaves : Outcome → Told
   names : Name → Told
+  gives : List ℕ → Told
   decides : Result Decision → Told
 
 -- what the definitions say, and what the rules say

@@ -12,17 +12,21 @@ use Rattle.meaning.specs.Trace.{read}
 use Rattle.meaning.specs.Compose.{compose}
 use Rattle.meaning.specs.Names.{RecordedActivities, UnrecordedActivities, «MQROUTE_DETAIL_LOW», «MQROUTE_DETAIL_MEDIUM», «MQROUTE_DETAIL_HIGH», «MQROUTE_ACCUMULATE_IN_MSG»}
 use Rattle.meaning.specs.Event.{Level, low, medium, high, Event, State, Done, discontinuity, activity, done, denied, event}
-use Rattle.meaning.specs.Activity.{activityGroup, inMessage, substitute, nameOf}
+use Rattle.meaning.specs.Activity.{activityGroup, inMessage, substitute, nameOf, nameBytes}
 use Rattle.meaning.specs.Demand3.{soundTrace, limitOf, limitPlace, larger, Alike}
 use Rattle.meaning.proofs.Stores.{length-store, store-same}
 use Rattle.meaning.proofs.ReadsBack.{madeUp}
-use Rattle.meaning.proofs.Cases.{Told, checks, reads, answers, leaves, names, decides, Case, case, checked, header, traceWith, counting, on, lentGroup, activityWith, rejected, forwarded, definitions}
+use Rattle.meaning.proofs.Cases.{Told, checks, reads, answers, leaves, names, gives, decides, Case, case, checked, header, traceWith, counting, on, lentGroup, activityWith, rejected, forwarded, definitions}
 use Rattle.meaning.specs.Decision.{forward, putLocally, withhold, arrival}
 
 -- structures one behind the other
 abbrev join : List (List ℕ) → List ℕ
 join [] = []
 join (x ∷ xs) = x ++ join xs
+
+-- a trace's header, with so many structures behind it
+abbrev heading : ℕ → List ℕ
+heading n = words (10 ∷ 36 ∷ 3 ∷ 75 ∷ 1 ∷ 1 ∷ 0 ∷ 0 ∷ n ∷ [])
 
 -- an integer, a group with so many members, a string of a length in a structure of a length
 abbrev integer : ℕ → ℕ → List ℕ
@@ -42,8 +46,8 @@ eightIntegers =
 -- strings 77; and in the TraceRoute group, behind the eight, a nested group with that identifier.
 abbrev decoys : List ℕ
 decoys =
-    join (words (10 ∷ 36 ∷ 3 ∷ 75 ∷ 1 ∷ 1 ∷ 0 ∷ 0 ∷ 2 ∷ [])
-    ∷ group 8005 4 ∷ integer 1202 900 ∷ integer 77 5 ∷ string 77 5 (65 ∷ 32 ∷ 66 ∷ 32 ∷ 32 ∷ 0 ∷ 0 ∷ 0 ∷ []) ∷ string 77 1 (67 ∷ 0 ∷ 0 ∷ 0 ∷ [])
+    join (heading 2
+    ∷ group 8005 4 ∷ integer 1202 900 ∷ integer 77 5 ∷ string 77 5 (65 ∷ 32 ∷ 66 ∷ 32 ∷ 32 ∷ 88 ∷ 88 ∷ 88 ∷ []) ∷ string 77 1 (67 ∷ 0 ∷ 0 ∷ 0 ∷ [])
     ∷ group 8003 9 ∷ eightIntegers ∷ group 99 1 ∷ integer 1202 800 ∷ [])
 
 abbrev decoyValues : ℕ → List ℕ
@@ -54,7 +58,7 @@ decoyState = record { buf = decoys ++ replicate 40 0; len = length decoys; repor
 
 -- a trace whose TraceRoute group has one member more
 abbrev withMember : List ℕ → List ℕ
-withMember extra = join (words (10 ∷ 36 ∷ 3 ∷ 75 ∷ 1 ∷ 1 ∷ 0 ∷ 0 ∷ 1 ∷ []) ∷ group 8003 9 ∷ eightIntegers ∷ extra ∷ [])
+withMember extra = join (heading 1 ∷ group 8003 9 ∷ eightIntegers ∷ extra ∷ [])
 
 -- groups, so many one inside the other, and in the last of them one structure
 abbrev nestedAnd : ℕ → List ℕ → List ℕ
@@ -98,6 +102,19 @@ unrecorded = record { counter = UnrecordedActivities; appended = false; reportLe
 abbrev pair : Level → ℕ → Done → Case
 pair level detail outcome = case (on (detailed detail) (atLevel level)) (answers (done outcome))
 
+-- a trace with one Activity group, whose one string is 77 with this text, of a multiple of 4 bytes, from place 72 on
+abbrev naming : List ℕ → List ℕ
+naming text =
+    join (heading 2 ∷ group 8005 1 ∷ string 77 (length text) text ∷ group 8003 8 ∷ eightIntegers ∷ [])
+
+-- of the text so many bytes are the name
+abbrev kept : List ℕ → ℕ → Case
+kept text n = case (names (nameOf madeUp (naming text) (length (naming text)) 0 77)) (names (inMessage (record { place = 72; length = n })))
+
+-- what is given for the name 78 of a message that has none, or is refused
+abbrev instead : List ℕ → List ℕ → Case
+instead message other = case (gives (nameBytes message other (nameOf madeUp message (length message) 0 78))) (gives other)
+
 pub corners : List Case
 corners =
     -- a counter is a direct member of the TraceRoute group, not one of another group
@@ -139,12 +156,31 @@ corners =
     ∷ case (decides (arrival madeUp (traceWith 0 0 0 0 0x100 0x12000) 180)) (decides (refused 14 0))
     -- exactly one of the two bits: Compose refuses both, and then writes nothing
     ∷ case (reads (read madeUp (traceWith 0 0 0 0 0x300 0x1000) 180)) (reads (refused 2 0))
-    -- a name is the first string with the identifier, without its trailing blanks; a blank inside stays
+    -- a name is the first direct string with the identifier; the structure's padding is no part of it
     ∷ case (names (nameOf madeUp decoys (length decoys) 0 77)) (names (inMessage (record { place = 104; length = 3 })))
     ∷ case (names (nameOf madeUp decoys (length decoys) 0 78)) (names substitute)
     ∷ case (names (nameOf madeUp decoys (length decoys) 1 77)) (names substitute)
     ∷ case (names (inMessage (activityGroup madeUp decoys (length decoys) 0))) (names (inMessage (record { place = 36; length = 100 })))
     ∷ case (names (inMessage (activityGroup madeUp decoys (length decoys) 1))) (names (inMessage (record { place = 0; length = 0 })))
+    -- it ends before its trailing blanks and zero bytes: all blanks, all zeros, a mixture; an empty one
+    ∷ kept (32 ∷ 32 ∷ 32 ∷ 32 ∷ []) 0
+    ∷ kept (0 ∷ 0 ∷ 0 ∷ 0 ∷ []) 0
+    ∷ kept (32 ∷ 0 ∷ 0 ∷ 32 ∷ []) 0
+    ∷ kept [] 0
+    ∷ kept (65 ∷ 32 ∷ 0 ∷ 32 ∷ []) 1
+    ∷ kept (65 ∷ 0 ∷ 32 ∷ 0 ∷ []) 1
+    -- a zero or blank before another byte stays, inside or in front
+    ∷ kept (65 ∷ 0 ∷ 66 ∷ 32 ∷ []) 3
+    ∷ kept (65 ∷ 32 ∷ 66 ∷ 0 ∷ []) 3
+    ∷ kept (0 ∷ 32 ∷ 0 ∷ 65 ∷ []) 4
+    -- the numbers beside these two, and the blank of another character set, are other bytes
+    ∷ kept (65 ∷ 32 ∷ 0 ∷ 1 ∷ []) 4
+    ∷ kept (65 ∷ 31 ∷ 0 ∷ 32 ∷ []) 2
+    ∷ kept (65 ∷ 33 ∷ 32 ∷ 0 ∷ []) 2
+    ∷ kept (65 ∷ 0 ∷ 32 ∷ 64 ∷ []) 4
+    -- the substitute is given whole
+    ∷ instead (naming []) (65 ∷ 32 ∷ 0 ∷ [])
+    ∷ instead [] (0 ∷ 32 ∷ [])
     -- the nine pairs of level and Detail: unrecorded where the level is the higher one
     ∷ pair low «MQROUTE_DETAIL_LOW» recorded
     ∷ pair low «MQROUTE_DETAIL_MEDIUM» recorded

@@ -8,7 +8,7 @@ pub mod Splices
 pub mod Stores
 -- decimal text, its length, and its value again
 pub mod Decimals
--- the rest of a list, and a list that is filled, one element after the other
+-- the rest and the beginning of a list, and a list that is filled, one element after the other
 pub mod Lists
 -- Structures, the walk and whole messages
 -- Boolean tests and answers
@@ -68,7 +68,7 @@ pub mod Demand3
 -- Names
 -- the data of a string lies in the message
 pub mod Strings
--- trailing blanks
+-- THEOREMS trimmed-name, trimmed-bytes
 pub mod Trimmed
 -- Worked examples
 -- THEOREMS p-cases, command-event

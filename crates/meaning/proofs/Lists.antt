@@ -1,12 +1,12 @@
--- The rest of a list, one element after the other, and an array that is filled one element after the other.
+-- The rest and the beginning of a list, one element after the other, and an array that is filled one element after the other.
 use mathlib.Core.Path.{_≡_, refl, sym, ap, _∙_}
 use mathlib.Core.Bool.{Bool, true, false}
-use mathlib.Core.List.{List, [], _∷_}
-use Prim.Native.Nat.{ℕ, zero, suc, _+_, _≤_, _<_}
+use mathlib.Core.List.{List, [], _∷_, _++_}
+use Prim.Native.Nat.{ℕ, zero, suc, _+_, _-_, _≤_, _<_}
 use native.Mathlib.Numerals.{add-one}
 use native.Mathlib.Omega.{arith}
-use lib.ListN.{length, getD, set, replicate, drop, drop-of-length-le}
-use lib.Seq.{drop-cons, getD-set-same, getD-set-other}
+use lib.ListN.{length, getD, set, replicate, take, drop, drop-of-length-le}
+use lib.Seq.{take-suc, drop-cons, getD-set-same, getD-set-other}
 use lib.Dec.{eqb}
 use borrow.Author.Tests.{eqb-true, eqb-false}
 
@@ -15,6 +15,12 @@ rest-none l k h = drop-of-length-le l h
 
 pub rest-next : (l : List ℕ) (k : ℕ) → k < length l → drop k l ≡ getD l k 0 ∷ drop (k + 1) l
 rest-next l k h = rw (add-one k) (drop-cons l k 0 h)
+
+-- the last of the first n bytes
+pub take-last : (l : List ℕ) (n : ℕ) → 0 < n → n ≤ length l → take n l ≡ take (n - 1) l ++ (getD l (n - 1) 0 ∷ [])
+take-last l n p h =
+    let e : suc (n - 1) ≡ n = omega arith in
+    rw e at (take-suc l (n - 1) 0 (omega arith))
 
 -- the first k elements are what f says
 abbrev pub Filled : (ℕ → ℕ) → List ℕ → ℕ → Type 0

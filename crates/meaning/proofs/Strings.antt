@@ -1,22 +1,18 @@
--- A string: its data lie in it. And names: a byte more at the end of one.
+-- A string: its data lie in it.
 use mathlib.Core.Path.{_≡_, refl, sym, ap, _∙_}
-use mathlib.Core.Bool.{Bool, true, false}
-use mathlib.Core.List.{List, [], _∷_, _++_}
-use Prim.Native.Nat.{ℕ, suc, _+_, _-_, _≤_, _<_}
+use mathlib.Core.Bool.{true}
+use mathlib.Core.List.{List}
+use Prim.Native.Nat.{ℕ, _+_, _≤_}
 use native.Mathlib.Omega.{arith}
-use lib.ListN.{length, getD, take, length-append}
-use lib.Seq.{take-suc}
 use lib.Dec.{leb}
 use borrow.Author.Tests.{leb-true, le-leb}
 use Rattle.meaning.specs.Bytes.{Part, num, word}
 use Rattle.meaning.specs.Names.{«MQCFT_STRING»}
 use Rattle.meaning.specs.Answer.{accepted}
 use Rattle.meaning.specs.Structure.{Row, small, lengthRule, structureAt}
-use Rattle.meaning.specs.Activity.{isPad, trimmedIf, trimmed}
 use Rattle.meaning.proofs.Tests.{and-true}
 use Rattle.meaning.proofs.Structures.{judge-accepted, row-at}
 use Rattle.meaning.proofs.Walks.{Walks, none, more, In, here, there, in-nil, in-cases}
-use Rattle.meaning.proofs.Trimmed.{trim}
 
 -- THE DATA of a string end where the string does, or before
 string-rule : (t n a b c : ℕ) → t ≡ «MQCFT_STRING» → lengthRule t n a b c ≡ true → 20 + b ≤ n
@@ -43,29 +39,3 @@ walks-data {m} (more {p} {d} {r = r₀} t w₁ w₂) r (here e) k =
     let f : p ≡ r .place = row-at m p d r₀ t .at-place ∙ ap (λ (x : Row). x .place) (sym e) in
     rw (← f) (string-data m p d r₀ t (ap (λ (x : Row). x .kind) (sym e) ∙ k))
 walks-data (more {rs₁} {rs₂} t w₁ w₂) r (there i) k = in-cases rs₁ rs₂ (λ h. walks-data w₁ r h k) (λ h. walks-data w₂ r h k) i
-
--- TRAILING BLANKS: one more at the end makes no difference, and any other byte keeps all before it
-pub trim-pad : (xs : List ℕ) (y : ℕ) → isPad y ≡ true → trimmed (xs ++ (y ∷ [])) ≡ trimmed xs
-unfolding trimmed
-trim-pad [] y e = rw e refl
-trim-pad (x ∷ xs) y e = ap (trimmedIf (isPad x) x) (trim-pad xs y e)
-
-front-stays : (b : Bool) (x : ℕ) (xs : List ℕ) (y : ℕ) → trimmedIf b x (xs ++ (y ∷ [])) ≡ x ∷ (xs ++ (y ∷ []))
-front-stays true x [] y = refl
-front-stays true x (z ∷ zs) y = refl
-front-stays false x xs y = refl
-
-pub trim-other : (xs : List ℕ) (y : ℕ) → isPad y ≡ false → trimmed (xs ++ (y ∷ [])) ≡ xs ++ (y ∷ [])
-unfolding trimmed
-trim-other [] y e = rw e refl
-trim-other (x ∷ xs) y e = ap (trimmedIf (isPad x) x) (trim-other xs y e) ∙ front-stays (isPad x) x xs y
-
--- the last of the first n bytes
-pub take-last : (s : List ℕ) (n : ℕ) → 0 < n → n ≤ length s → take n s ≡ take (n - 1) s ++ (getD s (n - 1) 0 ∷ [])
-take-last s n p h =
-    let e : suc (n - 1) ≡ n = omega arith in
-    rw e at (take-suc s (n - 1) 0 (omega arith))
-
--- a name is no longer with its blanks cut off
-pub trim-le : (xs : List ℕ) → length (trimmed xs) ≤ length xs
-trim-le xs = let t = trim xs in omega (arith, ap length (t .whole), length-append (trimmed xs) (t .cut))

@@ -1,6 +1,6 @@
 -- The n-th Activity group and the named strings in it, as parts of the message.
 use Prim.Native.Nat.{ℕ, _+_}
-use mathlib.Core.Bool.{Bool, true, false}
+use mathlib.Core.Bool.{Bool, true, false, _||_}
 use mathlib.Core.List.{List, [], _∷_}
 use lib.ListN.{length, getD, take, drop}
 use lib.Dec.{eqb}
@@ -40,9 +40,9 @@ nthActivity (refused k p) n = noGroup
 unfoldable pub activityGroup : Terms → List ℕ → ℕ → ℕ → Span
 activityGroup tm buf len n = spanOf (nthActivity (readTrace tm buf len) n)
 
--- TRAILING BLANKS removed: a byte that a name does not end with
+-- TRAILING BLANKS AND ZERO BYTES removed, in any mixture: a byte that a name does not end with
 unfoldable pub isPad : ℕ → Bool
-isPad x = eqb x 0x20
+isPad x = eqb x 0x20 || eqb x 0x00
 
 -- a byte in front of a name that is trimmed already
 abbrev pub trimmedIf : Bool → ℕ → List ℕ → List ℕ
@@ -76,8 +76,13 @@ abbrev pub firstName : List ℕ → ℕ → List Row → Name
 firstName buf len [] = substitute
 firstName buf len (r ∷ rs) = inMessage (trimmedAt buf (stringAt (partOf buf len) (r .place)))
 
--- A NAMED STRING: the first direct string with the identifier in the n-th Activity group, without its trailing blanks; or
--- the substitute, if message or sheet is refused or there is no such string
+-- A NAMED STRING: the first direct string with the identifier in the n-th Activity group, without its trailing blanks and
+-- zero bytes; or the substitute, if message or sheet is refused or there is no such string
 unfoldable pub nameOf : Terms → List ℕ → ℕ → ℕ → ℕ → Name
 nameOf tm buf len n id =
     firstName buf len (named id (strings (directIn (nthActivity (readTrace tm buf len) n .inside))))
+
+-- the bytes of a name: a part of the message's, or all of the lent substitute's
+abbrev pub nameBytes : List ℕ → List ℕ → Name → List ℕ
+nameBytes buf other (inMessage s) = bytesIn buf s
+nameBytes buf other substitute = other

@@ -77,8 +77,10 @@ fn main() {
     say(b"a trace without Activity groups\n");
     show(&buffer, 180, SHEET, 1, 2);
     put_names(&mut buffer);
-    say(b"names: all blank, empty, with blanks inside, none\n");
-    show(&buffer, 344, SHEET, 5, 6);
+    say(
+        b"names: all blanks, empty, with blanks inside, all zeros, a mixture, with both inside, none\n",
+    );
+    show(&buffer, 468, SHEET, 8, 9);
     put_twice(&mut buffer);
     say(b"refused: two TraceRoute groups\n");
     show(&buffer, 324, SHEET, 1, 3);

@@ -47,7 +47,7 @@ pub fn put_decoys(buffer: &mut [u8; 512]) {
     let b = put(buffer, a, &[20, 16, 8005, 4]);
     let c = put(buffer, b, &[3, 16, 1202, 900]);
     let d = put(buffer, c, &[3, 16, 77, 5]);
-    let e = put(buffer, d, &[4, 28, 77, 0, 5, 0x41204220, 0x20000000]);
+    let e = put(buffer, d, &[4, 28, 77, 0, 5, 0x41204220, 0x20585858]);
     let f = put(buffer, e, &[4, 24, 77, 0, 1, 0x43000000]);
     let g = put_route(buffer, f, 9);
     let h = put(buffer, g, &[20, 16, 99, 1]);
@@ -60,10 +60,10 @@ pub fn put_none(buffer: &mut [u8; 512]) {
     put_route(buffer, a, 8);
 }
 
-// A trace with four Activity groups, 344 bytes: a name of eight blanks; an empty name, and a second one; a name with blanks
-// before, in and behind it; nothing.
+// A trace with seven Activity groups, 468 bytes: a name of eight blanks; an empty name, and a second one; a name with blanks
+// before, in and behind it; a name of four zero bytes; one of both; one with both in it and behind it; nothing.
 pub fn put_names(buffer: &mut [u8; 512]) {
-    let a = put(buffer, 0, &[10, 36, 3, 75, 1, 1, 0, 0, 5]);
+    let a = put(buffer, 0, &[10, 36, 3, 75, 1, 1, 0, 0, 8]);
     let b = put_route(buffer, a, 8);
     let c = put(buffer, b, &[20, 16, 8005, 1]);
     let d = put(buffer, c, &[4, 28, 77, 0, 8, 0x20202020, 0x20202020]);
@@ -72,7 +72,13 @@ pub fn put_names(buffer: &mut [u8; 512]) {
     let g = put(buffer, f, &[4, 24, 77, 0, 4, 0x6c617465]);
     let h = put(buffer, g, &[20, 16, 8005, 1]);
     let i = put(buffer, h, &[4, 28, 77, 0, 8, 0x20412020, 0x42202020]);
-    put(buffer, i, &[20, 16, 8005, 0]);
+    let j = put(buffer, i, &[20, 16, 8005, 1]);
+    let k = put(buffer, j, &[4, 24, 77, 0, 4, 0]);
+    let l = put(buffer, k, &[20, 16, 8005, 1]);
+    let m = put(buffer, l, &[4, 24, 77, 0, 4, 0x00202000]);
+    let n = put(buffer, m, &[20, 16, 8005, 1]);
+    let o = put(buffer, n, &[4, 28, 77, 0, 8, 0x41002042, 0x20002000]);
+    put(buffer, o, &[20, 16, 8005, 0]);
 }
 
 // Two TraceRoute groups, 324 bytes: refused with 7.

@@ -1,5 +1,6 @@
 // The parts of a message that are handed out, against place and length.
 use crate::report::say;
+use crate::report::say_bytes;
 use crate::report::say_held;
 use crate::report::say_number;
 use activities::Named;
@@ -36,14 +37,14 @@ pub fn show_group(msg: &[u8], len: usize, sheet: [u32; 8], n: usize) {
     say_held(is_part(msg, span.place, span.length, part));
 }
 
-// A named string: the part against the span, or the substitute whole.
+// A named string: the part against the span, or the substitute whole, which ends in blanks and a zero byte.
 pub fn show_name(msg: &[u8], len: usize, sheet: [u32; 8], n: usize, id: u32) {
-    let other = *b"(no name)";
+    let other = *b"(no name) \0 ";
     let span = name_span(msg, len, sheet, n, id);
     let part = named_string(msg, len, sheet, n, id, &other);
     say_number(b"name ", n);
     say(b" [");
-    say(part);
+    say_bytes(part);
     match span {
         Named::Substitute => {
             say(b"]");

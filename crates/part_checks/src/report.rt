@@ -5,6 +5,20 @@ pub fn say(text: &[u8]) {
     io::write_all(STDOUT, text);
 }
 
+// Bytes, each zero byte as a dot.
+pub fn say_bytes(bytes: &[u8]) {
+    let mut i = 0;
+    while i < bytes.len() {
+        let byte = bytes[i];
+        if byte == 0 {
+            say(b".");
+        } else {
+            say(&[byte]);
+        }
+        i += 1;
+    }
+}
+
 // A word, and a number behind it.
 pub fn say_number(text: &[u8], n: usize) {
     say(text);

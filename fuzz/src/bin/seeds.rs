@@ -23,12 +23,12 @@ fn composed(sheet: [u32; 8], values: [u32; 8]) -> Vec<u8> {
     message
 }
 
-/// An Activity group with names, one of them with trailing blanks.
+/// An Activity group with names, one of them with trailing blanks and zeros.
 fn activity() -> Piece {
     Piece::group(
         8005,
         &[
-            Piece::string(3001, b"QM1     "),
+            Piece::string(3001, b"QM1 \0\0  "),
             Piece::integer(1201, 1),
             Piece::string(3002, b""),
         ],

@@ -12,7 +12,9 @@ use crate::word::word;
 const STRING_LENGTH_OFFSET: usize = 16;
 const STRING_DATA_OFFSET: usize = 20;
 
-const BLANK: u8 = 0x20;
+/// Clients fill names up with blanks or with zero bytes, so both are removed at
+/// the end.
+const FILL: [u8; 2] = [0x20, 0x00];
 
 /// A part of the message.
 #[derive(Clone, Copy, Debug, PartialEq, Eq)]
@@ -34,7 +36,7 @@ impl Part {
 pub enum Named {
     /// A part of the message, possibly of length 0.
     InMessage(Part),
-    /// The lent substitute, whole.
+    /// The lent substitute, whole: it is never trimmed.
     Substitute,
 }
 
@@ -55,8 +57,9 @@ pub fn activity_group(buffer: &[u8], length: usize, sheet: &Sheet, n: usize) -> 
     nth_group(buffer, length, n).ok()?
 }
 
-/// The first direct string with the identifier in the n-th Activity group,
-/// without its trailing blanks.
+/// The first direct string with the identifier in the n-th Activity group, up
+/// to its last byte that is neither blank nor zero. A string without such a
+/// byte is an empty part at its data, not the substitute.
 pub fn named_string(
     buffer: &[u8],
     length: usize,
@@ -110,12 +113,13 @@ fn string_in(buffer: &[u8], group: Part, identifier: u32) -> Option<Part> {
     })
 }
 
-/// The string's data without trailing blanks; padding is no part of the data.
+/// The string's data without the fill at the end; fill before another byte is
+/// part of the name, and padding is no part of the data.
 fn trimmed(bytes: &[u8], row: &Row) -> Option<Part> {
     let place = row.place.checked_add(STRING_DATA_OFFSET)?;
     let length = word(bytes, row.place.checked_add(STRING_LENGTH_OFFSET)?)? as usize;
     let data = bytes.get(place..)?.get(..length)?;
-    let kept = data.iter().rposition(|&byte| byte != BLANK);
+    let kept = data.iter().rposition(|byte| !FILL.contains(byte));
     Some(Part {
         place,
         length: kept.map_or(0, |last| last + 1),

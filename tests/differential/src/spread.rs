@@ -2,6 +2,7 @@
 //! never came would be blind there.
 
 use crate::compare::expect;
+use crate::compare::parts::FoundName;
 use crate::ffi::Answer;
 use decoder::{Applied, EventRefusal};
 use std::collections::BTreeMap;
@@ -41,10 +42,17 @@ impl Spread {
         }
     }
 
-    /// A named string: whether there is one, and whether it is empty.
-    pub fn name(&mut self, length: Option<u64>) {
-        self.note("name", u32::from(length.is_none()));
-        self.note("empty name", u32::from(length != Some(0)));
+    /// A named string: whether there is one, whether it is empty, and what was
+    /// cut off at its end.
+    pub fn name(&mut self, found: Option<FoundName>) {
+        self.note("name", u32::from(found.is_none()));
+        self.note(
+            "empty name",
+            u32::from(found.as_ref().is_none_or(|name| name.length != 0)),
+        );
+        if let Some(name) = found {
+            self.note("cut off a name", name.cut);
+        }
     }
 
     /// No other numbers came than these, and in a long run each of them.

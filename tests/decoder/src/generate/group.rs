@@ -2,7 +2,7 @@
 
 use super::build::Piece;
 use super::damage::damage;
-use super::leaf::{filler, text};
+use super::leaf::{filler, string};
 use super::random::Random;
 use super::tree::{chain, forest};
 use super::NAMES;
@@ -11,14 +11,16 @@ use crate::sheet::Sheet;
 use crate::trace::{ACTIVITY_GROUP, TRACE_ROUTE_GROUP};
 use crate::word::{put_word, word};
 
+/// Lengths of names, with every length of the shortest padding.
+const NAME_LENGTHS: [usize; 10] = [0, 1, 2, 3, 5, 8, 12, 18, 20, 48];
+
 /// Members of an Activity group: names, the sheet's identifiers, anything.
 pub(super) fn activity_members(random: &mut Random, sheet: &Sheet, room: usize) -> Vec<Piece> {
     let mut pieces = forest(random, &sheet.identifiers, 2, room, 4);
     for _ in 0..random.below(5) {
-        let length = random.pick(&[0, 1, 4, 8, 12, 48]);
-        let name = text(random, length);
+        let (name, length) = (random.pick(&NAMES), random.pick(&NAME_LENGTHS));
         let place = random.below(pieces.len() + 1);
-        pieces.insert(place, Piece::string(random.pick(&NAMES), &name));
+        pieces.insert(place, string(random, name, length));
     }
     pieces
 }

@@ -2,6 +2,7 @@
 
 use super::build::Piece;
 use super::random::Random;
+use super::text::{padding, text};
 
 const LEAVES: [u32; 10] = [3, 4, 5, 6, 9, 13, 14, 15, 23, 25];
 
@@ -49,8 +50,13 @@ fn with_data(random: &mut Random, kind: u32, parameter: u32, area: usize) -> Pie
     } else {
         random.below(area + 1)
     };
+    padded(random, kind, parameter, length, area - length)
+}
+
+/// The same with so many bytes of data and so many of padding.
+fn padded(random: &mut Random, kind: u32, parameter: u32, length: usize, behind: usize) -> Piece {
     let data = text(random, length);
-    let padding = random.bytes(area - length);
+    let padding = padding(random, behind);
     let length = length as u32;
     let (operator, charset) = (random.word(), random.pick(&[0, 819, 1208, u32::MAX]));
     match kind {
@@ -61,17 +67,12 @@ fn with_data(random: &mut Random, kind: u32, parameter: u32, area: usize) -> Pie
     }
 }
 
-/// Some data end in blanks, some in zeros, some are blanks only.
-pub(super) fn text(random: &mut Random, length: usize) -> Vec<u8> {
-    let mut data = random.bytes(length);
-    let tail = match random.below(4) {
-        0 => length,
-        1 => 0,
-        _ => random.below(length + 1),
-    };
-    let fill = random.pick(&[0x20, 0x20, 0x20, 0x00]);
-    data[length - tail..].fill(fill);
-    data
+/// A string with so many bytes of data; the padding is the shortest or some
+/// words longer.
+pub(super) fn string(random: &mut Random, parameter: u32, length: usize) -> Piece {
+    let shortest = length.wrapping_neg() % 4;
+    let more = random.pick(&[0, 0, 0, 4, 8]);
+    padded(random, 4, parameter, length, shortest + more)
 }
 
 fn list(random: &mut Random, kind: u32, parameter: u32, area: usize, each: usize) -> Piece {
@@ -93,7 +94,7 @@ fn string_list(random: &mut Random, parameter: u32, area: usize) -> Piece {
     };
     let used = (count as usize).saturating_mul(length as usize);
     let data = text(random, used);
-    let padding = random.bytes(area - used);
+    let padding = padding(random, area - used);
     let fields = [random.word(), count, length];
     Piece::new(6, parameter, &fields, &data, &padding)
 }

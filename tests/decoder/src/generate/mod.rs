@@ -17,6 +17,7 @@ mod pair;
 mod place;
 mod random;
 mod sheet;
+mod text;
 mod trace;
 mod tree;
 mod values;
@@ -31,6 +32,7 @@ pub use pair::{pair, Pair};
 pub use place::any_place;
 pub use random::Random;
 pub use sheet::{any_sheet, sound_sheet, unsound_sheet};
+pub use text::NEAR_MISSES;
 pub use trace::{
     any_trace, damaged_trace, faulty_trace, sound_trace, sound_trace_with, Fault, TraceCase, FAULTS,
 };

@@ -147,7 +147,13 @@ fn appended_groups_and_names_can_be_read() {
             }
             for id in NAMES {
                 match named_string(buffer, length, &case.sheet, n, id) {
-                    Named::InMessage(_) => names += 1,
+                    Named::InMessage(part) => {
+                        let string = &buffer[part.place - 20..];
+                        assert_eq!([get(string, 0), get(string, 8)], [4, id]);
+                        let data = &string[20..][..get(string, 16) as usize];
+                        hold_name(data, part.of(buffer));
+                        names += 1;
+                    }
                     Named::Substitute => substitutes += 1,
                 }
             }

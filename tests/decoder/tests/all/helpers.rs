@@ -166,3 +166,16 @@ pub fn counted(counter: Counter, message_length: usize) -> Applied {
         message_length,
     }
 }
+
+pub fn is_fill(byte: &u8) -> bool {
+    [0x20, 0x00].contains(byte)
+}
+
+/// The name is a beginning of the data, only blanks and zero bytes are behind
+/// it there, and it ends in neither. Just one beginning is like that: the
+/// longest that ends in neither.
+pub fn hold_name(data: &[u8], name: &[u8]) {
+    let removed = data.strip_prefix(name).expect("a beginning of the data");
+    assert!(removed.iter().all(is_fill), "{name:?} of {data:?}");
+    assert!(!name.last().is_some_and(is_fill), "{name:?} of {data:?}");
+}

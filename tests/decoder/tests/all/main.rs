@@ -6,6 +6,7 @@ mod examples;
 mod generated;
 mod helpers;
 mod levels;
+mod names;
 mod plain;
 mod readings_events;
 mod readings_messages;

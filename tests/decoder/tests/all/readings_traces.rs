@@ -247,7 +247,7 @@ fn i7_i8_i9_named_strings() {
         name(0, 3003),
         Named::InMessage(Part { length: 0, .. })
     ));
-    assert_eq!(text(0, 3004), b" a b\0");
+    assert_eq!(text(0, 3004), b" a b");
     for (n, id) in [(0, 3005), (1, 1), (2, 3001), (usize::MAX, 3001)] {
         assert_eq!(name(n, id), Named::Substitute);
         assert_eq!(text(n, id), b"none \0 ");

@@ -1,6 +1,7 @@
 //! How often each answer occurs over 20,000 generated cases: none may be
 //! missing, or a comparison over these cases would be blind there.
 
+use crate::helpers::{get, is_fill};
 use decoder::generate::*;
 use decoder::*;
 use std::collections::BTreeMap;
@@ -38,6 +39,14 @@ impl Spread {
             }
         }
     }
+
+    /// Of a thousand cases at least so many were 1; all others were 0.
+    fn demand_share(&self, entry: &'static str, least: usize) {
+        let [not, held] = [0, 1].map(|number| self.count(entry, number));
+        let share = 1000 * held / (not + held).max(1);
+        println!("{entry:15} {share:3} of 1000");
+        assert!(share >= least, "{entry}: only {share} of 1000");
+    }
 }
 
 fn message_case(random: &mut Random, spread: &mut Spread) {
@@ -60,6 +69,48 @@ fn trace_case(random: &mut Random, spread: &mut Spread) {
     spread.note("group", u8::from(group));
     let name = named_string(buffer, length, sheet, n, random.pick(&NAMES));
     spread.note("name", u8::from(name == Named::Substitute));
+    for n in 0..3 {
+        for id in NAMES {
+            if let Named::InMessage(part) = named_string(buffer, length, sheet, n, id) {
+                found_name(buffer, part.place, spread);
+            }
+        }
+    }
+}
+
+/// Notes what a found string's data and padding are like. Both are taken from
+/// the string's own fields, so that nothing depends on the decoder's trim.
+fn found_name(buffer: &[u8], place: usize, spread: &mut Spread) {
+    let [struc_length, string_length] = [16, 4].map(|back| get(buffer, place - back) as usize);
+    let (data, padding) = buffer[place..][..struc_length - 20].split_at(string_length);
+    let last = data.iter().rposition(|byte| !is_fill(byte));
+    let (name, run) = data.split_at(last.map_or(0, |last| last + 1));
+    let mut changes = run.to_vec();
+    changes.dedup();
+    let near = name.last().is_some_and(|last| NEAR_MISSES.contains(last));
+    let behind_run = name.iter().nth_back(1).is_some_and(is_fill);
+    let others = padding.iter().filter(|byte| !is_fill(byte)).count();
+    for (entry, holds) in [
+        ("empty", data.is_empty()),
+        ("no run", run.is_empty() && !data.is_empty()),
+        ("only blanks", changes == [0x20]),
+        ("only zeros", changes == [0x00]),
+        ("blanks, zeros", changes == [0x20, 0x00]),
+        ("zeros, blanks", changes == [0x00, 0x20]),
+        ("alternation", changes.len() > 2),
+        ("mixture", changes.len() > 1),
+        ("all fill", name.is_empty() && !data.is_empty()),
+        ("mixed all fill", name.is_empty() && changes.len() > 1),
+        ("zero inside", name.contains(&0x00)),
+        ("blank inside", name.contains(&0x20)),
+        ("either inside", name.iter().any(is_fill)),
+        ("near, run", near && !run.is_empty()),
+        ("run, near", near && behind_run),
+        ("fill padding", !padding.is_empty() && others == 0),
+        ("other padding", others > 0),
+    ] {
+        spread.note(entry, u8::from(holds));
+    }
 }
 
 /// An activity's level and the trace's Detail as one number: low under low,
@@ -152,4 +203,31 @@ fn no_answer_is_missing() {
     spread.demand("unrecorded", &[0, 1, 2, 3, 4, 5, 6, 7, 8], 50);
     // Most activities are recorded, so that there are many appends and reports.
     assert!(spread.count("counter", 0) > spread.count("counter", 1));
+    demand_names(&spread);
+}
+
+/// Every way of trimming that is wrong needs strings on which it differs.
+fn demand_names(spread: &Spread) {
+    spread.demand("empty", &[0, 1], 200);
+    for (entry, least) in [
+        ("empty", 60),
+        ("no run", 200),
+        ("only blanks", 100),
+        ("only zeros", 100),
+        ("blanks, zeros", 40),
+        ("zeros, blanks", 40),
+        ("alternation", 100),
+        ("mixture", 200),
+        ("all fill", 130),
+        ("mixed all fill", 60),
+        ("zero inside", 150),
+        ("blank inside", 150),
+        ("either inside", 220),
+        ("near, run", 150),
+        ("run, near", 120),
+        ("fill padding", 300),
+        ("other padding", 150),
+    ] {
+        spread.demand_share(entry, least);
+    }
 }

@@ -2,7 +2,28 @@
 
 use super::{expect, fill};
 use crate::ffi;
-use decoder::{Named, Sheet};
+use decoder::{Named, Part, Sheet};
+
+/// What was found under a name.
+pub struct FoundName {
+    pub length: usize,
+    /// What is cut off at the string's end: 0 nothing, 1 blanks, 2 zero bytes,
+    /// 3 both.
+    pub cut: u32,
+}
+
+impl FoundName {
+    /// Looks at all data of the string, whose length stands before them.
+    fn new(buffer: &[u8], name: Part) -> Self {
+        let (before, data) = buffer.split_at(name.place);
+        let length = before.last_chunk().map(|four| u32::from_be_bytes(*four));
+        let cut = &data[name.length..length.expect("a string") as usize];
+        Self {
+            length: name.length,
+            cut: u32::from(cut.contains(&0x20)) + 2 * u32::from(cut.contains(&0x00)),
+        }
+    }
+}
 
 /// Gives whether there is such a group.
 pub fn compare_group(buffer: &[u8], length: usize, sheet: &Sheet, n: usize) -> bool {
@@ -13,28 +34,29 @@ pub fn compare_group(buffer: &[u8], length: usize, sheet: &Sheet, n: usize) -> b
     found.is_some()
 }
 
-/// Gives the string's length, if there is such a string. Where there is none
-/// the part stays as it was.
+/// Gives what was found, if there is such a string. Where there is none the
+/// part stays as it was.
 pub fn compare_name(
     buffer: &[u8],
     length: usize,
     sheet: &Sheet,
     (n, identifier): (usize, u32),
-) -> Option<u64> {
+) -> Option<FoundName> {
     let named = decoder::named_string(buffer, length, sheet, n, identifier);
     let mut part = fill::PART;
     let found = ffi::named_string(buffer, length, &sheet.identifiers, n, identifier, &mut part);
-    let (there, wanted) = match named {
-        Named::InMessage(part) => (true, expect::part(part)),
-        Named::Substitute => (false, fill::PART),
+    let (wanted, name) = match named {
+        Named::InMessage(part) => (expect::part(part), Some(FoundName::new(buffer, part))),
+        Named::Substitute => (fill::PART, None),
     };
     assert_eq!(
-        found, there,
+        found,
+        name.is_some(),
         "named string {identifier} in Activity group {n}"
     );
     assert_eq!(
         part, wanted,
         "named string {identifier} in Activity group {n}"
     );
-    there.then_some(wanted.length)
+    name
 }

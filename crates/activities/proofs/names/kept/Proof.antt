@@ -4,8 +4,10 @@ use Prim.Native.Nat.{_≤_}
 use native.Mathlib.Omega.{arith}
 use denote.Ref.{now}
 use lib.ListN.{length, take, drop}
+use borrow.Author.Tests.{not-true, not-false}
 use Rattle.meaning.specs.Activity.{trimmed}
 use Rattle.activities.proofs.Namings.{kept-stop, kept-next, kept-none}
+use borrow.Author.Needs.{needs}
 use Rattle.activities.proofs.names.kept.Statement.{statement}
 use Rattle.activities.proofs.names.kept.Tie as tie
 
@@ -17,20 +19,20 @@ abbrev μ-loop : tie.MeasureT-loop
 
 returns : tie.Need-returns Inv-loop μ-loop
 returns c =
-    let l = c .before .before .before in
-    let a = l .before .args in
-    sym (ap length (l .loop .inv .1) ∙ kept-stop (now (a .msg)) (a .place) (l .loop .n) (omega arith) (omega arith) (c .if1 .taken))
+    let l = c .before .before .before .before in
+    let a = l .before .before .args in
+    sym (ap length (l .loop .inv .1) ∙ kept-stop (now (a .msg)) (a .place) (l .loop .n) (omega arith) (omega arith) (sym (c .before .is-pad .ensures) ∙ not-true _ (c .if1 .taken)))
 
 loop-again : tie.Need-loop-again Inv-loop μ-loop
 loop-again c =
-    let l = c .before .before .before in
-    let a = l .before .args in
-    (omega arith, l .loop .inv .1 ∙ kept-next (now (a .msg)) (a .place) (l .loop .n) (omega arith) (omega arith) (c .if1 .left))
+    let l = c .before .before .before .before in
+    let a = l .before .before .args in
+    (omega arith, l .loop .inv .1 ∙ kept-next (now (a .msg)) (a .place) (l .loop .n) (omega arith) (omega arith) (sym (c .before .is-pad .ensures) ∙ not-false _ (c .if1 .left)))
 
 returns-2 : tie.Need-returns-2 Inv-loop μ-loop
 returns-2 c =
     let l = c .before in
-    let a = l .before .args in
+    let a = l .before .before .args in
     sym (ap length (l .loop .inv .1) ∙ kept-none (now (a .msg)) (a .place) (l .loop .n) (c .loop-test .left))
 
 pub kept-spec : {M : Type 1} → statement M
@@ -43,6 +45,7 @@ kept-spec =
     (λ c. omega arith)
     (λ c. omega arith)
     (λ c. omega arith)
+    (λ c κs. search needs)
     returns
     (λ c. omega arith)
     loop-again

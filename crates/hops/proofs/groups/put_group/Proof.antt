@@ -1,5 +1,5 @@
 -- `put_group` meets its contract: the line is made of the parts that were handed out.
-use mathlib.Core.Path.{_≡_, refl, sym}
+use mathlib.Core.Path.{_≡_, sym}
 use Prim.Native.Nat.{_+_}
 use native.Mathlib.Omega.{arith}
 use borrow.Author.Needs.{needs}
@@ -8,7 +8,8 @@ use Rattle.meaning.specs.Activity.{activityGroup, nameOf}
 use Rattle.attributes.specs.Terms.{termsOf}
 use Rattle.hops.specs.Hops.{hopLine, hopOf}
 use Rattle.text.proofs.Printed.{wrote-as, room-as}
-use Rattle.hops.proofs.Parts.{group-length, name-given, line-is}
+use Rattle.activities.proofs.Namings.{gives-bytes}
+use Rattle.hops.proofs.Parts.{group-length, line-is}
 use Rattle.hops.proofs.groups.put_group.Statement.{statement}
 use Rattle.hops.proofs.groups.put_group.Tie as tie
 
@@ -24,7 +25,7 @@ line : (c : tie.After-named-string)
     ≡ hopOf (termsOf (c .before .before .before .before .before .args .sheet)) (c .before .before .before .before .before .args .msg .now) (c .before .before .before .before .before .args .id) (c .before .before .before .before .before .args .n)
 line c =
     let a = c .before .before .before .before .before .args in
-    line-is (termsOf (a .sheet)) (a .msg .now) (a .id) (a .n) (a .place) _ _ (c .before .before .before .before .before .pre .placed) (size (c .before .before)) (name-given (a .msg) _ (c .named-string .result) (nameOf (termsOf (a .sheet)) (a .msg .now) (length (a .msg .now)) (a .n) (a .id)) refl (c .named-string .ensures))
+    line-is (termsOf (a .sheet)) (a .msg .now) (a .id) (a .n) (a .place) _ _ (c .before .before .before .before .before .pre .placed) (size (c .before .before)) (gives-bytes (a .msg) _ (c .named-string .result) (nameOf (termsOf (a .sheet)) (a .msg .now) (length (a .msg .now)) (a .n) (a .id)) (c .named-string .ensures))
 
 pub put-group-spec : {M : Type 1} → statement M
 put-group-spec =

@@ -47,10 +47,11 @@ fn case(random: &mut Random, spread: &mut Spread) {
 
 #[test]
 fn generated_traces() {
-    let wanted: [(_, &[u32]); 3] = [
+    let wanted: [(_, &[u32]); 4] = [
         ("group", &[0, 1]),
         ("name", &[0, 1]),
         ("empty name", &[0, 1]),
+        ("cut off a name", &[0, 1, 2, 3]),
     ];
     run("parts", 100_000, &wanted, case);
 }
