@@ -5,6 +5,11 @@
  *     forwarder on MESSAGE REPORT        enters its activity and says whether the message goes on
  *     forwarder arrive MESSAGE REPORT    enters its activity and says whether the message is put to its queue
  *
+ * With --embedded or -e in front of these words the message is embedded, and a new one has the bytes of one more file behind it,
+ * as user data:
+ *
+ *     forwarder --embedded new MESSAGE LIMIT DATA
+ *
  * The exit status is 0 if it goes on or is put, 1 if not, and 2 for wrong usage or a file that does not work. */
 
 #include "gwirandol.h"
@@ -20,12 +25,16 @@ enum { MOST = 65536 };
 enum { NOT_DELIVERED = 284 };
 
 /* A real program has the first from the descriptor (MQRO_ACTIVITY in its Report field), the next two from its queue manager
- * (ACTIVREC, ROUTEREC), and the last from its partner. Each function looks only at the bits that concern it. */
-static const uint32_t options = GW_OPTION_REPORTS_ASKED | GW_OPTION_ACTIVITY_RECORDING | GW_OPTION_TRACE_ROUTE_MESSAGING |
-                                GW_OPTION_REMOTE_SUPPORTS;
+ * (ACTIVREC, ROUTEREC), and the last from its partner. That a message is embedded, GW_OPTION_EMBEDDED, it has from the
+ * descriptor too: its Format is MQHEPCF then. Each function looks only at the bits that concern it. */
+static uint32_t options = GW_OPTION_REPORTS_ASKED | GW_OPTION_ACTIVITY_RECORDING | GW_OPTION_TRACE_ROUTE_MESSAGING |
+                          GW_OPTION_REMOTE_SUPPORTS;
 
 static const uint32_t sheet[GW_ATTRIBUTES] = GW_IBM_SHEET;
-static uint8_t message[MOST];
+
+/* What is read has room for one byte more than any message has, so that a longer file is refused and not cut. */
+static uint8_t message[MOST + 1];
+static uint8_t data[MOST + 1];
 static uint8_t report[MOST];
 
 /* The activity of this program: an Activity group (8005) with one string, the application's name (3024). */
@@ -40,16 +49,13 @@ static void fail(const char *name)
     exit(2);
 }
 
-static size_t load(const char *name)
+static size_t load(const char *name, uint8_t bytes[MOST + 1])
 {
     FILE *file = fopen(name, "rb");
     if (!file) {
         fail(name);
     }
-    size_t length = fread(message, 1, sizeof message, file);
-    if (fgetc(file) != EOF) {
-        length++; /* longer than any message: the library refuses a length above the buffer */
-    }
+    size_t length = fread(bytes, 1, MOST + 1, file);
     if (ferror(file)) {
         fail(name);
     }
@@ -65,13 +71,18 @@ static void save(const char *name, const uint8_t *bytes, size_t length)
     }
 }
 
-static int compose(const char *name, uint32_t limit)
+/* Of a plain message, which has no user data, the name of their file is null. */
+static int compose(const char *name, uint32_t limit, const char *data_name)
 {
+    /* what the embedded header says of the user data: numbers with their highest byte first, and text in ISO 8859-1 */
+    static const uint32_t fields[GW_FIELDS] = {[GW_FIELD_ENCODING] = 273, [GW_FIELD_CODED_CHAR_SET_ID] = 819};
+    static const uint8_t format[GW_FORMAT_BYTES] = {'M', 'Q', 'S', 'T', 'R', ' ', ' ', ' '};
     /* programs and channel agents are to be seen, nothing is counted yet, accumulated in the message with a reply, to be
      * forwarded to all, not delivered */
     uint32_t values[GW_ATTRIBUTES] = {GW_MQROUTE_DETAIL_MEDIUM, 0, 0, 0, limit, GW_MQROUTE_ACCUMULATE_AND_REPLY,
                                       GW_MQROUTE_FORWARD_ALL, GW_MQROUTE_DELIVER_NO};
-    gw_answer answer = gw_compose(sheet, values, message, sizeof message);
+    size_t data_length = data_name ? load(data_name, data) : 0;
+    gw_answer answer = gw_compose(sheet, values, options, fields, format, data, data_length, message, sizeof message);
     if (gw_number(answer) != GW_ACCEPTED) {
         printf("refused with %" PRIu32 ": %s\n", gw_number(answer), gw_in_words(gw_number(answer)).text);
         return 1;
@@ -85,10 +96,11 @@ static int compose(const char *name, uint32_t limit)
  * trace-route messaging. */
 static const char *reply(size_t length)
 {
-    uint32_t values[GW_ATTRIBUTES];
+    uint32_t values[GW_ATTRIBUTES], fields[GW_FIELDS];
+    uint8_t format[GW_FORMAT_BYTES];
+    gw_answer answer = gw_read(message, sizeof message, length, sheet, options, values, fields, format);
     bool owed = (options & GW_OPTION_TRACE_ROUTE_MESSAGING) != 0 &&
-                gw_number(gw_read(message, sizeof message, length, sheet, values)) == GW_ACCEPTED &&
-                values[GW_ATTR_ACCUMULATE] == GW_MQROUTE_ACCUMULATE_AND_REPLY;
+                gw_number(answer) == GW_ACCEPTED && values[GW_ATTR_ACCUMULATE] == GW_MQROUTE_ACCUMULATE_AND_REPLY;
     return owed ? "a reply is owed" : "no reply is owed";
 }
 
@@ -108,7 +120,7 @@ static int reject(gw_answer answer, size_t length)
 /* What the library decides about a message that our activity is in. */
 static int decide(size_t length, bool arrived)
 {
-    gw_answer answer = arrived ? gw_arrive(message, sizeof message, length, sheet)
+    gw_answer answer = arrived ? gw_arrive(message, sizeof message, length, sheet, options)
                                : gw_forward(message, sizeof message, length, sheet, options);
     if (gw_number(answer) != GW_ACCEPTED) {
         return reject(answer, length);
@@ -134,7 +146,7 @@ static int decide(size_t length, bool arrived)
  * nothing, so that there is nothing to keep and no report. */
 static int handle(const char *name, const char *report_name, bool arrived)
 {
-    size_t length = load(name);
+    size_t length = load(name, message);
     gw_done done;
     /* a program's own activities are of the low level, which can be recorded under every Detail */
     gw_answer answer = gw_activity(message, sizeof message, length, sheet, options, GW_LEVEL_LOW, activity, sizeof activity,
@@ -155,11 +167,17 @@ static int handle(const char *name, const char *report_name, bool arrived)
 
 int main(int argc, char **argv)
 {
-    if (argc == 4 && strcmp(argv[1], "new") == 0) {
+    bool embedded = argc > 1 && (strcmp(argv[1], "-e") == 0 || strcmp(argv[1], "--embedded") == 0);
+    if (embedded) {
+        options |= GW_OPTION_EMBEDDED;
+        argc--;
+        argv++;
+    }
+    if (argc == (embedded ? 5 : 4) && strcmp(argv[1], "new") == 0) {
         char *end;
         unsigned long limit = strtoul(argv[3], &end, 10);
         if (end != argv[3] && *end == '\0' && limit <= INT32_MAX) {
-            return compose(argv[2], (uint32_t)limit);
+            return compose(argv[2], (uint32_t)limit, embedded ? argv[4] : NULL);
         }
     }
     if (argc == 4 && strcmp(argv[1], "on") == 0) {
@@ -168,6 +186,7 @@ int main(int argc, char **argv)
     if (argc == 4 && strcmp(argv[1], "arrive") == 0) {
         return handle(argv[2], argv[3], true);
     }
-    fprintf(stderr, "usage: forwarder new MESSAGE LIMIT | on MESSAGE REPORT | arrive MESSAGE REPORT\n");
+    fprintf(stderr, "usage: forwarder new MESSAGE LIMIT | on MESSAGE REPORT | arrive MESSAGE REPORT\n"
+                    "       forwarder --embedded new MESSAGE LIMIT DATA | on MESSAGE REPORT | arrive MESSAGE REPORT\n");
     return 2;
 }

@@ -16,7 +16,7 @@ static const char *entered(uint32_t level, uint32_t detail)
                                             [GW_ATTR_FORWARD] = GW_MQROUTE_FORWARD_ALL,
                                             [GW_ATTR_DELIVER] = GW_MQROUTE_DELIVER_NO};
     uint8_t buffer[256];
-    size_t length = gw_value(gw_compose(sheet, values, buffer, sizeof buffer));
+    size_t length = gw_value(gw_compose_plain(sheet, values, buffer, sizeof buffer));
     gw_done done;
     gw_answer answer = gw_activity(buffer, sizeof buffer, length, sheet, GW_OPTION_TRACE_ROUTE_MESSAGING, level, group,
                                    sizeof group, NULL, 0, &done);

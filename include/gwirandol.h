@@ -10,6 +10,12 @@
  * A place is counted from the message's first byte. Structures at the top level have depth 1, the members of a group one
  * more than the group.
  *
+ * A message has one of two forms, which the caller says and no function guesses. A plain message is a PCF header and its
+ * structures, and nothing else. An embedded one (GW_OPTION_EMBEDDED) has an embedded header of 32 bytes, IBM's MQEPH, before
+ * the PCF header, and behind the last structure the sender's own data, of any length. The PCF part is the same in both, and
+ * whatever is said of a header or a structure below is said of it; it ends where the embedded header's StrucLength says.
+ * `length` is the whole message's, user data included.
+ *
  * The examples below go on from each other. They are compiled and run by the project's tests, in a function that has
  *
  *     static uint8_t buffer[65536], text[GW_LISTING_BYTES], report[65536];
@@ -29,10 +35,10 @@ extern "C" {
 #endif
 
 #define GW_VERSION_MAJOR 0
-#define GW_VERSION_MINOR 4
+#define GW_VERSION_MINOR 5
 #define GW_VERSION_PATCH 0
 #define GW_VERSION (GW_VERSION_MAJOR * 1000000 + GW_VERSION_MINOR * 1000 + GW_VERSION_PATCH)
-#define GW_VERSION_TEXT "0.4.0"
+#define GW_VERSION_TEXT "0.5.0"
 
 /* THE VERSION of the library that is linked, as GW_VERSION is that of this header.
  *
@@ -55,7 +61,7 @@ static inline uint64_t gw_value(gw_answer answer) { return answer / 32; }
 /* THE REFUSALS. Their place is 0 unless another is named. */
 enum gw_refusal {
     GW_ACCEPTED = 0,
-    GW_REFUSED_LENGTH = 1,                  /* length above the buffer or 65,536, or below 36 */
+    GW_REFUSED_LENGTH = 1,                  /* length above the buffer or 65,536, or below 36, embedded 68 */
     GW_REFUSED_HEADER = 2,                  /* StrucLength not 36, Version not 1 to 3, or count of 2^31 or more */
     GW_REFUSED_STRUCTURE = 3,               /* structure: unknown type, length, count, or past the end; its start */
     GW_REFUSED_DEPTH = 4,                   /* group deeper than 8; its start */
@@ -71,16 +77,19 @@ enum gw_refusal {
     GW_REFUSED_UNSUPPORTED_DELIVERY = 14,   /* Deliver has an unknown option, a bit of 0xFFFF0000 */
     GW_REFUSED_UNSUPPORTED_FORWARDING = 15, /* Forward has an unknown option, a bit of 0xFFFF0000 */
     GW_REFUSED_NOT_FORWARDED = 16,          /* Forward "if supported", and the remote manager does not */
-    GW_REFUSED_SHEET = 17                   /* sheet: a number out of range or two equal */
+    GW_REFUSED_SHEET = 17,                  /* sheet: a number out of range or two equal */
+    GW_REFUSED_EMBEDDED_HEADER = 18         /* not "EPH ", Version not 1, or a StrucLength below 68, above the message or
+                                               no multiple of 4 */
 };
 
-/* Where several apply, the first in this order is given: 17 where there is a sheet; 1; 2; of 3 and 4 the one at the lowest
- * place, 3 before 4 at one structure; 5 to 13, by their numbers. 14, 15 and 16 come last, as gw_forward says. By function:
+/* Where several apply, the first in this order is given: 17 where there is a sheet; 1; 18 where the message is embedded; 2; of
+ * 3 and 4 the one at the lowest place, 3 before 4 at one structure; 5 to 13, by their numbers. 14, 15 and 16 come last, as
+ * gw_forward says. By function:
  *
  *   gw_compose                    17  8  12
- *   gw_check, gw_tally, gw_list   1  2  3 and 4  5
- *   gw_step                       1  3  4
- *   gw_read                       17  1  2  3 and 4  5  6  7  8
+ *   gw_check, gw_tally, gw_list   1  18  2  3 and 4  5
+ *   gw_step                       1  18  3  4
+ *   gw_read                       17  1  18  2  3 and 4  5  6  7  8
  *   gw_forward                    gw_read's  14  15  16
  *   gw_arrive                     gw_read's  14
  *   gw_discontinuity              gw_read's  10  11
@@ -90,7 +99,7 @@ enum gw_refusal {
 
 /* A REFUSAL IN WORDS, for people: writes the words of a number and a zero byte behind them to the start of the text, where
  * they always fit; what is behind stays. Gives how many bytes the words have, the zero byte not counted. 0 is "accepted", and
- * a number above 17 is "no refusal has this number".
+ * a number above 18 is "no refusal has this number".
  *
  *     char words[GW_WORDS_BYTES];
  *     gw_words(GW_REFUSED_SHEET, words);
@@ -163,20 +172,33 @@ enum gw_level {
     GW_LEVEL_HIGH = 32
 };
 
-/* THE OPTIONS of a call are one value, the sum (or |) of those that hold. A function looks at the bits that it names, and
- * ignores all others, those without a name included. */
+/* THE OPTIONS of a call are one value, the sum (or |) of those that hold. Every function that has options looks at
+ * GW_OPTION_EMBEDDED, and else at the bits that it names; it ignores all others, those without a name included. */
 enum gw_option {
     GW_OPTION_REPORTS_ASKED = 1,         /* the message's descriptor asks for activity reports */
     GW_OPTION_ACTIVITY_RECORDING = 2,    /* this queue manager does activity recording */
     GW_OPTION_TRACE_ROUTE_MESSAGING = 4, /* this queue manager does trace-route messaging */
-    GW_OPTION_REMOTE_SUPPORTS = 8        /* the remote queue manager supports trace-route messaging */
+    GW_OPTION_REMOTE_SUPPORTS = 8,       /* the remote queue manager supports trace-route messaging */
+    GW_OPTION_EMBEDDED = 16              /* the message is embedded; without it, plain */
 };
 
 /* A SHEET has the identifiers of the eight attributes: eight different numbers from 1 to 2^31 - 1. These are IBM's. */
 #define GW_IBM_SHEET {1234, 1235, 1257, 1237, 1236, 1238, 1259, 1239}
 
-/* COMPOSE: refusals 17, 8, 12. Writes a trace-route message of 180 bytes to the start of the buffer and gives 180; what is
- * behind it stays.
+/* THE FIELDS of an embedded header that no function judges, as positions: what the sender says of the user data. With them
+ * goes Format, eight bytes. */
+#define GW_FIELDS 3
+#define GW_FORMAT_BYTES 8
+enum gw_field {
+    GW_FIELD_ENCODING = 0,
+    GW_FIELD_CODED_CHAR_SET_ID = 1,
+    GW_FIELD_FLAGS = 2
+};
+
+/* COMPOSE: refusals 17, 8, 12. Writes a trace-route message to the start of the buffer and gives its length; what is behind
+ * it stays. A plain message has 180 bytes; fields, format and user data play no part in it, though `fields` and `format` must
+ * be there: gw_compose_plain() does without them. An embedded one has 212 bytes, with the fields and the format in its embedded
+ * header, and then the user data.
  *
  *     uint32_t values[GW_ATTRIBUTES] = {0};
  *     values[GW_ATTR_DETAIL] = GW_MQROUTE_DETAIL_MEDIUM;
@@ -184,41 +206,68 @@ enum gw_option {
  *     values[GW_ATTR_ACCUMULATE] = GW_MQROUTE_ACCUMULATE_IN_MSG;
  *     values[GW_ATTR_FORWARD] = GW_MQROUTE_FORWARD_ALL;
  *     values[GW_ATTR_DELIVER] = GW_MQROUTE_DELIVER_YES;
- *     length = gw_value(gw_compose(sheet, values, buffer, sizeof buffer));
- *     printf("%zu bytes\n", length); */
-gw_answer gw_compose(const uint32_t sheet[8], const uint32_t values[8], uint8_t *buffer, size_t size);
-
-/* CHECK: refusals 1 to 5. Gives the number of structures, nested ones included.
+ *     length = gw_value(gw_compose_plain(sheet, values, buffer, sizeof buffer));
+ *     printf("%zu bytes\n", length);
  *
- *     gw_answer checked = gw_check(buffer, sizeof buffer, length);
+ * The same message, embedded, with five bytes of user data:
+ *
+ *     static uint8_t around[65536];
+ *     const uint32_t fields[GW_FIELDS] = {273, 819, 0};
+ *     const uint8_t format[GW_FORMAT_BYTES] = {'M', 'Q', 'S', 'T', 'R', ' ', ' ', ' '};
+ *     size_t whole = gw_value(gw_compose(sheet, values, GW_OPTION_EMBEDDED, fields, format, (const uint8_t *)"hello", 5,
+ *                                        around, sizeof around));
+ *     printf("%zu bytes, embedded\n", whole); */
+gw_answer gw_compose(const uint32_t sheet[8], const uint32_t values[8], uint32_t options, const uint32_t fields[GW_FIELDS],
+                     const uint8_t format[GW_FORMAT_BYTES], const uint8_t *user, size_t user_size, uint8_t *buffer,
+                     size_t size);
+
+static inline gw_answer gw_compose_plain(const uint32_t sheet[8], const uint32_t values[8], uint8_t *buffer, size_t size)
+{
+    const uint32_t no_fields[GW_FIELDS] = {0};
+    const uint8_t no_format[GW_FORMAT_BYTES] = {0};
+    return gw_compose(sheet, values, 0, no_fields, no_format, NULL, 0, buffer, size);
+}
+
+/* CHECK: refusals 1, 18, and 2 to 5. Gives the number of structures, nested ones included. User data are not judged.
+ *
+ *     gw_answer checked = gw_check(buffer, sizeof buffer, length, 0);
  *     if (gw_number(checked) == GW_ACCEPTED)
  *         printf("%u structures\n", (unsigned)gw_value(checked));
  *     else
  *         printf("refused at byte %u: %s\n", (unsigned)gw_value(checked), gw_in_words(gw_number(checked)).text); */
-gw_answer gw_check(const uint8_t *buffer, size_t size, size_t length);
+gw_answer gw_check(const uint8_t *buffer, size_t size, size_t length, uint32_t options);
 
 /* TALLY: answers as gw_check does, and counts[k] is the number of structures of type k, nested ones included. All counts
  * are 0 if the message is refused.
  *
  *     uint32_t counts[27];
- *     if (gw_number(gw_tally(buffer, sizeof buffer, length, counts)) == GW_ACCEPTED)
+ *     if (gw_number(gw_tally(buffer, sizeof buffer, length, 0, counts)) == GW_ACCEPTED)
  *         printf("%u groups\n", (unsigned)counts[20]); */
-gw_answer gw_tally(const uint8_t *buffer, size_t size, size_t length, uint32_t counts[27]);
+gw_answer gw_tally(const uint8_t *buffer, size_t size, size_t length, uint32_t options, uint32_t counts[27]);
 
-/* LIST: refusals 1 to 5. Writes the listing's text, which always fits, and gives its length; what is behind it stays.
+/* LIST: refusals 1, 18, and 2 to 5. Writes the listing's text, which always fits, and gives its length; what is behind it
+ * stays. The length in its first line is the whole message's.
  *
- *     gw_answer listed = gw_list(buffer, sizeof buffer, length, text);
+ *     gw_answer listed = gw_list(buffer, sizeof buffer, length, 0, text);
  *     if (gw_number(listed) == GW_ACCEPTED)
  *         fwrite(text, 1, gw_value(listed), stdout); */
 #define GW_LISTING_BYTES 131072
-gw_answer gw_list(const uint8_t *buffer, size_t size, size_t length, uint8_t text[GW_LISTING_BYTES]);
+gw_answer gw_list(const uint8_t *buffer, size_t size, size_t length, uint32_t options, uint8_t text[GW_LISTING_BYTES]);
 
-/* READ: refusals 17, then 1 to 8. Gives 0 and the eight values; refused, the values stay.
+/* READ: refusals 17, 1, 18, then 2 to 8. Gives the place of the user data, which go on to the message's end, and writes the
+ * eight values, and the fields and the format of the embedded header. A plain message has no user data, so that their place is
+ * its length, and zeros for the rest. Refused, all three stay.
  *
- *     uint32_t read[GW_ATTRIBUTES];
- *     if (gw_number(gw_read(buffer, sizeof buffer, length, sheet, read)) == GW_ACCEPTED)
- *         printf("at most %u activities\n", (unsigned)read[GW_ATTR_MAX_ACTIVITIES]); */
-gw_answer gw_read(const uint8_t *buffer, size_t size, size_t length, const uint32_t sheet[8], uint32_t values[8]);
+ *     uint32_t read[GW_ATTRIBUTES], read_fields[GW_FIELDS];
+ *     uint8_t read_format[GW_FORMAT_BYTES];
+ *     if (gw_number(gw_read(buffer, sizeof buffer, length, sheet, 0, read, read_fields, read_format)) == GW_ACCEPTED)
+ *         printf("at most %u activities\n", (unsigned)read[GW_ATTR_MAX_ACTIVITIES]);
+ *     gw_answer user = gw_read(around, sizeof around, whole, sheet, GW_OPTION_EMBEDDED, read, read_fields, read_format);
+ *     if (gw_number(user) == GW_ACCEPTED)
+ *         printf("%.8s: %.*s\n", (const char *)read_format, (int)(whole - gw_value(user)),
+ *                (const char *)around + gw_value(user)); */
+gw_answer gw_read(const uint8_t *buffer, size_t size, size_t length, const uint32_t sheet[8], uint32_t options,
+                  uint32_t values[8], uint32_t fields[GW_FIELDS], uint8_t format[GW_FORMAT_BYTES]);
 
 enum gw_decision {
     GW_DECIDED_FORWARD = 1,
@@ -244,10 +293,10 @@ gw_answer gw_forward(const uint8_t *buffer, size_t size, size_t length, const ui
 /* ARRIVAL: refusals as gw_read's, then 14 if Deliver has an unknown option. Gives GW_DECIDED_PUT for Deliver yes, and
  * GW_DECIDED_WITHHOLD for Deliver no.
  *
- *     gw_answer arrival = gw_arrive(buffer, sizeof buffer, length, sheet);
+ *     gw_answer arrival = gw_arrive(buffer, sizeof buffer, length, sheet, 0);
  *     if (gw_number(arrival) == GW_ACCEPTED)
  *         printf("%s\n", gw_value(arrival) == GW_DECIDED_PUT ? "put on the queue" : "withheld"); */
-gw_answer gw_arrive(const uint8_t *buffer, size_t size, size_t length, const uint32_t sheet[8]);
+gw_answer gw_arrive(const uint8_t *buffer, size_t size, size_t length, const uint32_t sheet[8], uint32_t options);
 
 /* WHAT AN ACCEPTED EVENT DID: which counter rose (GW_ATTR_RECORDED_ACTIVITIES, GW_ATTR_UNRECORDED_ACTIVITIES or
  * GW_ATTR_DISCONTINUITY_COUNT), whether the group was appended (1 or 0), the report's length or 0, the message's length
@@ -263,9 +312,10 @@ typedef struct gw_done {
  * DiscontinuityCount is one higher and no other byte of the buffer changes; refused, buffer and `done` stay.
  *
  *     gw_done done;
- *     if (gw_number(gw_discontinuity(buffer, sizeof buffer, length, sheet, &done)) == GW_ACCEPTED)
+ *     if (gw_number(gw_discontinuity(buffer, sizeof buffer, length, sheet, 0, &done)) == GW_ACCEPTED)
  *         printf("counter %u rose\n", (unsigned)done.counter); */
-gw_answer gw_discontinuity(uint8_t *buffer, size_t size, size_t length, const uint32_t sheet[8], gw_done *done);
+gw_answer gw_discontinuity(uint8_t *buffer, size_t size, size_t length, const uint32_t sheet[8], uint32_t options,
+                           gw_done *done);
 
 /* AN ACTIVITY: refusals as gw_read's, then 9 to 13. Gives the message's new length. Refused, both buffers and `done` stay.
  *
@@ -283,9 +333,10 @@ gw_answer gw_discontinuity(uint8_t *buffer, size_t size, size_t length, const ui
  * activity is
  *
  *   - reported if the options have GW_OPTION_REPORTS_ASKED and GW_OPTION_ACTIVITY_RECORDING: a message, of a header of 36
- *   bytes and the group, is written to the start of the report buffer, and what is behind it stays;
+ *   bytes and the group, is written to the start of the report buffer, and what is behind it stays; it is always plain;
  *   - appended if Accumulate is not GW_MQROUTE_ACCUMULATE_NONE and the options have GW_OPTION_TRACE_ROUTE_MESSAGING: the
- *   group is written behind the message, and the header's ParameterCount rises by one;
+ *   group is written behind the PCF part, and the header's ParameterCount rises by one; of an embedded message the user data
+ *   move back by the group's length, unharmed, and the embedded header's StrucLength rises by as much;
  *   - recorded if it is reported or appended: RecordedActivities rises by one. Else it is unrecorded too.
  *
  * Of an unrecorded activity UnrecordedActivities rises by one, and nothing else happens. 12 comes only if the group is to be
@@ -313,9 +364,10 @@ typedef struct gw_part {
  * is none, or if message or sheet is refused as in gw_read.
  *
  *     gw_part part;
- *     gw_activity_group(buffer, sizeof buffer, length, sheet, 0, &part);
+ *     gw_activity_group(buffer, sizeof buffer, length, sheet, 0, 0, &part);
  *     printf("%u bytes from byte %u on\n", (unsigned)part.length, (unsigned)part.place); */
-void gw_activity_group(const uint8_t *buffer, size_t size, size_t length, const uint32_t sheet[8], size_t n, gw_part *part);
+void gw_activity_group(const uint8_t *buffer, size_t size, size_t length, const uint32_t sheet[8], uint32_t options, size_t n,
+                       gw_part *part);
 
 /* A NAMED STRING: the first direct string with the identifier in the n-th Activity group. True, and the part of the message
  * that it is, without its trailing blanks and zero bytes, in any mixture; or false, and the part as it was: there is no such
@@ -323,12 +375,12 @@ void gw_activity_group(const uint8_t *buffer, size_t size, size_t length, const 
  * blanks and zero bytes is there, with length 0. Before another byte they stay: a name may have zero bytes in it, so that the
  * part's length tells where it ends, and nothing else.
  *
- *     if (gw_named_string(buffer, sizeof buffer, length, sheet, 0, 3012, &part))
+ *     if (gw_named_string(buffer, sizeof buffer, length, sheet, 0, 0, 3012, &part))
  *         fwrite(buffer + part.place, 1, (size_t)part.length, stdout);
  *     else
  *         printf("unknown");
  *     printf("\n"); */
-bool gw_named_string(const uint8_t *buffer, size_t size, size_t length, const uint32_t sheet[8], size_t n,
+bool gw_named_string(const uint8_t *buffer, size_t size, size_t length, const uint32_t sheet[8], uint32_t options, size_t n,
                      uint32_t identifier, gw_part *part);
 
 /* A STRUCTURE: depth, place, type, parameter, length; how many structures follow inside it (a group's count, else 0); and
@@ -343,8 +395,11 @@ typedef struct gw_row {
     uint64_t next;
 } gw_row;
 
-/* ONE STRUCTURE at any place, taken to have any depth. Gives 0 and the row, or refuses with 1, 3 or 4: the place of 3 and 4
- * is the one asked for, and gw_value() is 0. Refused, the row stays. The header is not looked at.
+/* ONE STRUCTURE at any place, taken to have any depth. Gives 0 and the row, or refuses with 1, 18, 3 or 4: the place of 3 and
+ * 4 is the one asked for, and gw_value() is 0. Refused, the row stays. The PCF header is not looked at. The first structure
+ * stands at 36, of an embedded message at 68. Where the PCF part ends there is none, though user data may follow: the step there
+ * gives 3. Of an embedded message that place is the embedded header's StrucLength, the number at byte 8; of a trace gw_read gives
+ * it too.
  *
  * The depth is the caller's to know. Here `due[d]` is how many members are still to come in the open group of depth d, or of
  * the message where d is 0. A group with members is gone into; behind the last member its group is left, and with it
@@ -354,7 +409,7 @@ typedef struct gw_row {
  *     uint32_t depth = 1;
  *     gw_row row;
  *     for (size_t place = 36; place < length; place = row.next) {
- *         if (gw_number(gw_step(buffer, sizeof buffer, length, place, depth, &row)) != GW_ACCEPTED)
+ *         if (gw_number(gw_step(buffer, sizeof buffer, length, 0, place, depth, &row)) != GW_ACCEPTED)
  *             break;
  *         printf("%u: type %u at byte %u\n", (unsigned)depth, (unsigned)row.type, (unsigned)row.place);
  *         due[depth - 1]--;
@@ -363,7 +418,8 @@ typedef struct gw_row {
  *         while (due[depth - 1] == 0)
  *             depth--;
  *     } */
-gw_answer gw_step(const uint8_t *buffer, size_t size, size_t length, size_t place, uint32_t depth, gw_row *row);
+gw_answer gw_step(const uint8_t *buffer, size_t size, size_t length, uint32_t options, size_t place, uint32_t depth,
+                  gw_row *row);
 
 #ifdef __cplusplus
 }

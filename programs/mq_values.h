@@ -38,7 +38,8 @@ enum mqn_set {
     MQN_DELIVERS,
     MQN_HEADER_TYPES,
     MQN_COMMANDS,
-    MQN_CONTROLS
+    MQN_CONTROLS,
+    MQN_EMBEDDED_FLAGS
 };
 
 #define MQN_ALL 0xFFFFFFFFu
@@ -256,7 +257,10 @@ static const struct mqn_value mqn_values[] = {
     {MQN_COMMANDS, MQN_ALL, 99, "MQCMD_COMMAND_EVENT", "command event"},
 
     {MQN_CONTROLS, MQN_ALL, 0, "MQCFC_NOT_LAST", "not the last message"},
-    {MQN_CONTROLS, MQN_ALL, 1, "MQCFC_LAST", "last message"}
+    {MQN_CONTROLS, MQN_ALL, 1, "MQCFC_LAST", "last message"},
+
+    {MQN_EMBEDDED_FLAGS, MQN_ALL, 0, "MQEPH_NONE", "none"},
+    {MQN_EMBEDDED_FLAGS, 0x00000001, 0x00000001, "MQEPH_CCSID_EMBEDDED", "character set in each structure"}
 };
 
 /* The set that the values of an integer parameter belong to. */

@@ -38,26 +38,38 @@ enum {
     INTEGER_64_LIST = 25
 };
 
-/* A message that gw_check accepted. Its header and the fields of its structures may then be read without looking at lengths
- * again; where a structure begins and ends is always asked of the library. */
+/* A message that gw_check accepted, in the form that its options name: GW_OPTION_EMBEDDED or none. Its headers and the fields
+ * of its structures may then be read without looking at lengths again; where a structure begins and ends is always asked of
+ * the library. */
 struct message {
     const uint8_t *bytes;
     size_t size;
     size_t length;
+    uint32_t options;
 };
 
 /* show_trace_fields.c: numbers, text and bytes. */
 uint32_t number_at(const struct message *m, size_t place);
+bool is_printable(uint8_t byte);
 void show_integer(uint32_t value, enum mqn_set set);
 void show_words(uint32_t value, enum mqn_set set);
+void show_header_field(const struct message *m, const char *name, size_t place, enum mqn_set set);
 size_t show_plain(const struct message *m, size_t place, size_t length);
+void show_format(const struct message *m, size_t place, size_t length, uint32_t character_set);
 void show_fields(const struct message *m, const gw_row *row);
 
+/* show_trace_embedded.c: the two forms, and what an embedded message has around its PCF part. */
+bool is_embedded(const struct message *m);
+size_t pcf_header(const struct message *m);
+void show_embedded_header(const struct message *m);
+void show_user_data(const struct message *m, size_t place);
+
 /* show_trace_structures.c: structures, and what is inside groups. */
+size_t first_structure(const struct message *m);
 bool step(const struct message *m, size_t place, uint64_t depth, gw_row *row);
 size_t behind(const struct message *m, const gw_row *row);
 bool is_group(const gw_row *row, uint32_t identifier);
-void show_structures(const struct message *m, bool trace);
+size_t show_structures(const struct message *m, bool trace);
 
 /* show_trace_attributes.c: the eight attributes of a trace, and what the library decides about it. */
 void show_attributes(const struct message *m, const uint32_t values[GW_ATTRIBUTES]);

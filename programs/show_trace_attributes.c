@@ -51,8 +51,9 @@ void show_attributes(const struct message *m, const uint32_t values[GW_ATTRIBUTE
     printf(", %" PRIu64 " used\n", used);
     show_attribute("Accumulate", values[GW_ATTR_ACCUMULATE], MQN_ACCUMULATES);
     show_options("Forward", values[GW_ATTR_FORWARD], MQN_FORWARDS);
-    show_decision("where supported", gw_forward(m->bytes, m->size, m->length, ibm_sheet, GW_OPTION_REMOTE_SUPPORTS));
-    show_decision("where not supported", gw_forward(m->bytes, m->size, m->length, ibm_sheet, 0));
+    show_decision("where supported",
+                  gw_forward(m->bytes, m->size, m->length, ibm_sheet, m->options | GW_OPTION_REMOTE_SUPPORTS));
+    show_decision("where not supported", gw_forward(m->bytes, m->size, m->length, ibm_sheet, m->options));
     show_options("Deliver", values[GW_ATTR_DELIVER], MQN_DELIVERS);
-    show_decision("on arrival", gw_arrive(m->bytes, m->size, m->length, ibm_sheet));
+    show_decision("on arrival", gw_arrive(m->bytes, m->size, m->length, ibm_sheet, m->options));
 }

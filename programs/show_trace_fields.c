@@ -30,6 +30,14 @@ void show_integer(uint32_t value, enum mqn_set set)
     show_words(value, set);
 }
 
+/* A field of a header, on a line of its own. */
+void show_header_field(const struct message *m, const char *name, size_t place, enum mqn_set set)
+{
+    printf("%-21s ", name);
+    show_integer(number_at(m, place), set);
+    printf("\n");
+}
+
 static void show_integer_64(const struct message *m, size_t place)
 {
     uint64_t value = (uint64_t)number_at(m, place) << 32 | number_at(m, place + 4);
@@ -46,7 +54,7 @@ static size_t trimmed(const struct message *m, size_t place, size_t length)
     return length;
 }
 
-static bool is_printable(uint8_t byte)
+bool is_printable(uint8_t byte)
 {
     return byte >= 0x20 && byte < 0x7F;
 }
@@ -95,15 +103,24 @@ static void show_bytes(const struct message *m, size_t place, size_t length)
     printf("'");
 }
 
+/* The name of a format, and what it means. */
+void show_format(const struct message *m, size_t place, size_t length, uint32_t character_set)
+{
+    const struct mqn_format *format = mqn_format_of(m->bytes + place, trimmed(m, place, length));
+    show_text(m, place, length, character_set);
+    if (format) {
+        printf(" (%s)", format->words);
+    }
+}
+
 static void show_string(const struct message *m, const gw_row *row)
 {
     size_t place = row->place + 20, length = number_at(m, row->place + 16);
-    show_text(m, place, length, number_at(m, row->place + 12));
+    uint32_t character_set = number_at(m, row->place + 12);
     if (row->parameter == FORMAT_NAME) {
-        const struct mqn_format *format = mqn_format_of(m->bytes + place, trimmed(m, place, length));
-        if (format) {
-            printf(" (%s)", format->words);
-        }
+        show_format(m, place, length, character_set);
+    } else {
+        show_text(m, place, length, character_set);
     }
 }
 

@@ -6,9 +6,15 @@
 
 const uint32_t ibm_sheet[GW_ATTRIBUTES] = GW_IBM_SHEET;
 
+size_t first_structure(const struct message *m)
+{
+    return pcf_header(m) + 36;
+}
+
+/* The structure at a place; false where the PCF part ends, also if user data follow. */
 bool step(const struct message *m, size_t place, uint64_t depth, gw_row *row)
 {
-    return gw_number(gw_step(m->bytes, m->size, m->length, place, (uint32_t)depth, row)) == GW_ACCEPTED;
+    return gw_number(gw_step(m->bytes, m->size, m->length, m->options, place, (uint32_t)depth, row)) == GW_ACCEPTED;
 }
 
 /* The place behind a structure and all that is inside it. Groups are at most 8 deep, and so are these calls. */
@@ -88,13 +94,14 @@ static void show_further(const struct message *m, const gw_row *group)
     }
 }
 
-/* All structures of a message. Activity groups are numbered as in the summary. */
-void show_structures(const struct message *m, bool trace)
+/* All structures of a message; gives the place behind them. Activity groups are numbered as in the summary. */
+size_t show_structures(const struct message *m, bool trace)
 {
+    size_t place = first_structure(m);
     uint64_t activities = 0;
     bool after_group = true;
     gw_row row;
-    for (size_t place = 36; place < m->length && step(m, place, 1, &row); place = behind(m, &row)) {
+    for (; step(m, place, 1, &row); place = behind(m, &row)) {
         if (trace && is_group(&row, TRACE_ROUTE_GROUP)) {
             show_further(m, &row);
         } else if (row.type == GROUP) {
@@ -111,4 +118,5 @@ void show_structures(const struct message *m, bool trace)
         }
         after_group = row.type == GROUP;
     }
+    return place;
 }

@@ -78,7 +78,7 @@ void show_summary(const struct message *m)
 {
     uint64_t activities = 0;
     gw_row row;
-    for (size_t place = 36; place < m->length && step(m, place, 1, &row); place = behind(m, &row)) {
+    for (size_t place = first_structure(m); step(m, place, 1, &row); place = behind(m, &row)) {
         if (!is_group(&row, ACTIVITY_GROUP)) {
             continue;
         }

@@ -2,8 +2,9 @@
 # none, since its language has none. It is asked for behind lines that set `name`, `program`, its path, and `version`.
 
 case $name in
-pcflist) lists="the structures of the PCF message on standard input: depth, place, type, parameter and length of each" ;;
-pcfhops) lists="the Activity groups of the trace-route message on standard input: number, place, length and application of each" ;;
+pcflist) lists="the structures of the plain PCF message on standard input: depth, place, type, parameter and length of each" ;;
+pcflist_embedded) lists="the structures of the embedded PCF message on standard input: depth, place, type, parameter and length of each" ;;
+pcfhops) lists="the Activity groups of the plain trace-route message on standard input: number, place, length and application of each" ;;
 esac
 usage="usage: $name < MESSAGE"
 case $#${1-} in

@@ -12,18 +12,14 @@ pub fn inputs() -> [Input; 4] {
     let mut index = 0;
     names.map(|name| {
         index += 1;
-        Input {
-            name,
-            message: flat(1024 * KILOBYTES[index - 1]),
-        }
+        Input::plain(name, flat(1024 * KILOBYTES[index - 1]))
     })
 }
 
 pub fn rows(inputs: &[Input; 4]) -> Vec<Row<'_>> {
-    let row = |input: &'static str, contenders| Row::new("check", input, contenders);
     inputs
         .iter()
-        .map(|x| row(x.name, check(&x.message)))
+        .map(|x| Row::new("check", x.name, check(x)))
         .collect()
 }
 

@@ -1,12 +1,21 @@
 //! The messages that are measured: all of them sound traces.
 
-use decoder::generate::{assemble, Piece};
+use crate::ffi::EMBEDDED;
+use decoder::generate::{assemble, embed, Piece};
 pub use decoder::sample::IBM as SHEET;
-use decoder::{Header, Sheet, Values};
+use decoder::{Embedding, Form, Header, Layout, Sheet, Values};
 
 /// Low detail, nothing counted, no limit, accumulated in the message, to be
 /// forwarded to all and delivered.
 pub const VALUES: [u32; 8] = [2, 0, 0, 0, 0, 0x10004, 0x100, 0x1000];
+
+/// User data of a usual text message.
+const EMBEDDING: Embedding = Embedding {
+    encoding: 273,
+    coded_char_set_id: 819,
+    format: *b"MQSTR   ",
+    flags: 0,
+};
 
 /// Identifier of an application's name, a direct string of each Activity group.
 pub const APPLICATION: u32 = 3024;
@@ -17,31 +26,74 @@ pub const LARGEST: usize = 65_536;
 pub struct Input {
     pub name: &'static str,
     pub message: Vec<u8>,
+    pub layout: Layout,
 }
 
-pub fn all() -> [Input; 5] {
-    [
+impl Input {
+    pub fn plain(name: &'static str, message: Vec<u8>) -> Input {
         Input {
-            name: "composed, 180 bytes",
-            message: composed(),
-        },
+            name,
+            message,
+            layout: Layout::PLAIN,
+        }
+    }
+
+    /// A composed trace with so many bytes of user data.
+    fn embedded(name: &'static str, user_bytes: usize) -> Input {
+        // A prime, so that bytes at a wrong place don't look like the right ones.
+        let user: Vec<u8> = (0..user_bytes).map(|place| (place % 251) as u8).collect();
         Input {
-            name: "20 Activity groups, 6,180 bytes",
-            message: typical(),
-        },
-        Input {
-            name: "flat, 65,536 bytes",
-            message: flat(LARGEST),
-        },
-        Input {
-            name: "groups to depth 8, 65,536 bytes",
-            message: nested(LARGEST),
-        },
-        Input {
-            name: "a string behind each group to depth 8, 65,536 bytes",
-            message: interleaved(LARGEST),
-        },
-    ]
+            name,
+            message: embed(&EMBEDDING, &composed(), &user),
+            layout: Layout::EMBEDDED,
+        }
+    }
+
+    /// What both sides are lent, and its layout as each of them is told it.
+    pub fn lent(&self) -> (&[u8], usize, Layout, u32) {
+        let length = self.message.len();
+        (&self.message, length, self.layout, options(self.layout))
+    }
+}
+
+/// What the library is told of a layout.
+pub fn options(layout: Layout) -> u32 {
+    match layout.form {
+        Form::Plain => 0,
+        Form::Embedded => EMBEDDED,
+    }
+}
+
+pub struct Inputs {
+    pub plain: [Input; 5],
+    /// Without user data, and with.
+    pub embedded: [Input; 2],
+}
+
+impl Inputs {
+    /// The plain ones, and the embedded one with user data, which are not to
+    /// be walked over.
+    pub fn of_both_forms(&self) -> impl Iterator<Item = &Input> {
+        self.plain.iter().chain(self.embedded.last())
+    }
+}
+
+pub fn all() -> Inputs {
+    let behind = "a string behind each group to depth 8, 65,536 bytes";
+    let with = "composed, embedded, 212 bytes and 32,768 of user data";
+    Inputs {
+        plain: [
+            Input::plain("composed, 180 bytes", composed()),
+            Input::plain("20 Activity groups, 6,180 bytes", typical()),
+            Input::plain("flat, 65,536 bytes", flat(LARGEST)),
+            Input::plain("groups to depth 8, 65,536 bytes", nested(LARGEST)),
+            Input::plain(behind, interleaved(LARGEST)),
+        ],
+        embedded: [
+            Input::embedded("composed, embedded, 212 bytes", 0),
+            Input::embedded(with, 32_768),
+        ],
+    }
 }
 
 fn trace(pieces: Vec<Piece>) -> Vec<u8> {
@@ -60,8 +112,9 @@ fn trace_route() -> Piece {
 
 fn composed() -> Vec<u8> {
     let mut message = vec![0; 180];
-    let values = Values::from_array(VALUES);
-    let composed = decoder::compose(&Sheet::new(SHEET), &values, &mut message);
+    let (sheet, values) = (Sheet::new(SHEET), Values::from_array(VALUES));
+    let (layout, none) = (Layout::PLAIN, Embedding::NONE);
+    let composed = decoder::compose(layout, &sheet, &values, &none, &[], &mut message);
     assert_eq!(composed, Ok(180));
     message
 }

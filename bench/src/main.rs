@@ -1,5 +1,6 @@
 //! Measures the proved library through C beside the independent decoder's own
-//! functions and, for the check, beside plain C. Prints tables in Markdown.
+//! functions, for the check beside plain C, and for an append beside plain Rust
+//! that does nothing else. Prints tables in Markdown.
 //!
 //! First `rt staticlib gwirandol` in the repository's root, or the library's
 //! folder in `GWIRANDOL_LIB`. Then `cargo run --release --offline`. With the
@@ -15,11 +16,14 @@ mod ffi;
 mod growth;
 mod inputs;
 mod measure;
+mod moving;
 mod notes;
 mod plain;
+mod stage;
 mod structures;
 mod table;
 mod traces;
+mod turns;
 
 fn main() {
     agree::checks();
@@ -37,7 +41,7 @@ fn times() {
     table::times(&rows);
 }
 
-fn rows(inputs: &[inputs::Input]) -> Vec<measure::Row<'_>> {
+fn rows(inputs: &inputs::Inputs) -> Vec<measure::Row<'_>> {
     let mut rows = structures::rows(inputs);
     rows.extend(traces::rows(inputs));
     rows.extend(events::rows(inputs));
@@ -48,11 +52,15 @@ fn tables() {
     let (inputs, grown) = (inputs::all(), growth::inputs());
     let mut measured = growth::rows(&grown);
     let growing = measured.len();
+    measured.extend(moving::rows(&inputs.embedded));
+    let apart = measured.len();
     measured.extend(rows(&inputs));
     measure::measure(&mut measured, measure::PASSES);
-    table::print(&measured[growing..]);
+    table::print(&measured[apart..]);
     println!();
     growth::print(&measured[..growing]);
+    println!();
+    moving::print(&measured[growing..apart]);
     println!();
     notes::print();
 }

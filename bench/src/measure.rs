@@ -31,7 +31,7 @@ pub struct Row<'a> {
     pub input: &'static str,
     contenders: Vec<Contender<'a>>,
     /// Nanoseconds for one call of each contender: library, Rust, and where
-    /// there is one, C.
+    /// there is one, a third: C for the check.
     pub best: Vec<f64>,
 }
 

@@ -7,7 +7,7 @@ pub fn print() {
     println!();
     println!(
         "- Nanoseconds for one call, the best of {} rounds of 1 to 2 ms. The rounds alternate \
-         between library, Rust and C, after a warm-up, in one run of {PASSES} passes over all rows.",
+         between all columns of a row, after a warm-up, in one run of {PASSES} passes over all rows.",
         PASSES * ROUNDS
     );
     println!(
@@ -34,14 +34,32 @@ pub fn print() {
         "- read and what builds on it (forward, events, names) walk the whole message on both \
          sides. The library writes lent values, the decoder returns them."
     );
-    println!(
-        "- activity: lends a group of 300 bytes, which is checked. Unrecorded, it raises a \
-         counter only; appended and reported, it also writes 300 bytes behind the message and a \
-         report of 336. The header's count is put back before each call, 4 bytes on both sides; \
-         the counters go on rising."
-    );
+    events();
     println!(
         "- name: a direct string of the first or last Activity group: 28 bytes, 16 of them trailing \
          blanks; in the deep groups 4 bytes without any."
+    );
+}
+
+fn events() {
+    println!(
+        "- activity: lends a group of 300 bytes, which is checked. Unrecorded, it raises a \
+         counter only; appended and reported, it also writes 300 bytes behind the part and a \
+         report of 336. The header's count is put back before each call, 4 bytes on both sides; \
+         the counters go on rising. Both sides work on the same memory in turns."
+    );
+    println!(
+        "- embedded: the composed trace with an embedded header of 32 bytes before it, and behind \
+         it nothing, or 32,768 bytes of user data, which an append moves back by the group's 300 \
+         bytes and nothing else looks at. Before each call the headers' two numbers are put back, 8 \
+         bytes on all sides. The user data are not: the next call finds as many bytes to move, \
+         and what they are makes no difference to it."
+    );
+    println!(
+        "- append by hand: plain Rust that knows all places and writes only what an append \
+         changes in the message: copy_within for the user data, copy_from_slice for the group, \
+         and three numbers. It walks over nothing, checks nothing and reports nothing, so that only \
+         its difference compares with the others'. The difference is the move, and what that \
+         pushes out of the caches."
     );
 }

@@ -1,54 +1,53 @@
 //! Read, compose, forward and names.
 
-use crate::ffi::{self, Answer, Part};
-use crate::inputs::{Input, APPLICATION, SHEET, VALUES};
+use crate::agree;
+use crate::ffi::{self, Answer, Around, Part};
+use crate::inputs::{Input, Inputs, APPLICATION, SHEET, VALUES};
 use crate::measure::{contender, Contender, Row};
-use decoder::{Sheet, Values};
+use decoder::{Embedding, Layout, Sheet, Values};
 use std::hint::black_box;
 
-pub fn rows(inputs: &[Input]) -> Vec<Row<'_>> {
-    let row = |entry, input: &'static str, contenders| Row::new(entry, input, contenders);
-    let reads = inputs.iter().map(|x| row("read", x.name, read(&x.message)));
-    let composing = row("compose", "180 bytes", compose());
-    let forwards = inputs
-        .iter()
-        .map(|x| row("forward", x.name, forward(&x.message)));
+pub fn rows(inputs: &Inputs) -> Vec<Row<'_>> {
+    let row = |entry, input: &Input, contenders| Row::new(entry, input.name, contenders);
+    let reads = inputs.of_both_forms().map(|x| row("read", x, read(x)));
+    let composing = Row::new("compose", "180 bytes", compose());
+    let forwards = inputs.plain.iter().map(|x| row("forward", x, forward(x)));
     let mut rows: Vec<Row> = reads.chain([composing]).chain(forwards).collect();
-    for input in inputs {
-        rows.extend(names(input));
-    }
+    rows.extend(inputs.plain.iter().flat_map(names));
     rows
 }
 
-fn read(message: &[u8]) -> Vec<Contender<'_>> {
-    let (length, sheet) = (message.len(), Sheet::new(SHEET));
-    let mut values = [0; 8];
-    let answer = ffi::read(message, length, &SHEET, &mut values);
-    // A refusal might well be faster.
-    assert_eq!((answer, values), (Answer::given(0), VALUES));
+fn read(input: &Input) -> Vec<Contender<'_>> {
+    let (message, length, layout, options) = input.lent();
+    let sheet = Sheet::new(SHEET);
+    let mut contents = agree::read(input);
     vec![
         contender(move || {
-            let answer = ffi::read(black_box(message), length, &SHEET, &mut values);
-            black_box(&values);
+            let message = black_box(message);
+            let answer = ffi::read(message, length, &SHEET, options, &mut contents);
+            black_box(&contents);
             answer
         }),
-        contender(move || decoder::read(black_box(message), length, &sheet)),
+        contender(move || decoder::read(black_box(message), length, layout, &sheet)),
     ]
 }
 
 fn compose<'a>() -> Vec<Contender<'a>> {
     let (sheet, values) = (Sheet::new(SHEET), Values::from_array(VALUES));
+    let (layout, none) = (Layout::PLAIN, Embedding::NONE);
     let (mut ours, mut theirs) = ([0; 180], [0; 180]);
-    let answer = ffi::compose(&SHEET, &VALUES, &mut ours);
+    let answer = ffi::compose(&SHEET, &VALUES, 0, &Around::NOTHING, &mut ours);
     assert_eq!(answer, Answer::given(180));
     vec![
         contender(move || {
-            let answer = ffi::compose(black_box(&SHEET), black_box(&VALUES), &mut ours);
+            let (sheet, values) = (black_box(&SHEET), black_box(&VALUES));
+            let answer = ffi::compose(sheet, values, 0, &Around::NOTHING, &mut ours);
             black_box(&ours);
             answer
         }),
         contender(move || {
-            let answer = decoder::compose(black_box(&sheet), black_box(&values), &mut theirs);
+            let (sheet, values) = (black_box(&sheet), black_box(&values));
+            let answer = decoder::compose(layout, sheet, values, &none, &[], &mut theirs);
             black_box(&theirs);
             answer
         }),
@@ -56,47 +55,51 @@ fn compose<'a>() -> Vec<Contender<'a>> {
 }
 
 /// To a manager that doesn't support trace-route messaging.
-fn forward(message: &[u8]) -> Vec<Contender<'_>> {
-    let (length, sheet) = (message.len(), Sheet::new(SHEET));
-    assert!(!ffi::forward(message, length, &SHEET, 0).is_refused());
+fn forward(input: &Input) -> Vec<Contender<'_>> {
+    let (message, length, layout, options) = input.lent();
+    let sheet = Sheet::new(SHEET);
+    assert!(!ffi::forward(message, length, &SHEET, options).is_refused());
     vec![
-        contender(move || ffi::forward(black_box(message), length, &SHEET, 0)),
-        contender(move || decoder::forwarding(black_box(message), length, &sheet, false)),
+        contender(move || ffi::forward(black_box(message), length, &SHEET, options)),
+        contender(move || decoder::forwarding(black_box(message), length, layout, &sheet, false)),
     ]
 }
 
 /// The name in the first and in the last group, where there is any.
 fn names(input: &Input) -> Vec<Row<'_>> {
-    let (message, sheet) = (&input.message[..], Sheet::new(SHEET));
+    let (message, length, layout, _) = input.lent();
+    let sheet = Sheet::new(SHEET);
     let groups = (0..)
-        .take_while(|n| decoder::activity_group(message, message.len(), &sheet, *n).is_some())
+        .take_while(|n| decoder::activity_group(message, length, layout, &sheet, *n).is_some())
         .count();
     if groups == 0 {
         return Vec::new();
     }
     vec![
-        Row::new("name, first group", input.name, name(message, 0)),
-        Row::new("name, last group", input.name, name(message, groups - 1)),
+        Row::new("name, first group", input.name, name(input, 0)),
+        Row::new("name, last group", input.name, name(input, groups - 1)),
     ]
 }
 
-fn name(message: &[u8], n: usize) -> Vec<Contender<'_>> {
-    let (length, sheet) = (message.len(), Sheet::new(SHEET));
+fn name(input: &Input, n: usize) -> Vec<Contender<'_>> {
+    let (message, length, layout, options) = input.lent();
+    let sheet = Sheet::new(SHEET);
     let mut part = Part {
         place: 0,
         length: 0,
     };
-    let found = ffi::named_string(message, length, &SHEET, n, APPLICATION, &mut part);
+    let found = ffi::named_string(message, length, &SHEET, options, n, APPLICATION, &mut part);
     assert!(found && part.length > 0);
     vec![
         contender(move || {
             let message = black_box(message);
-            let found = ffi::named_string(message, length, &SHEET, n, APPLICATION, &mut part);
+            let found =
+                ffi::named_string(message, length, &SHEET, options, n, APPLICATION, &mut part);
             black_box(&part);
             found
         }),
         contender(move || {
-            decoder::named_string(black_box(message), length, &sheet, n, APPLICATION)
+            decoder::named_string(black_box(message), length, layout, &sheet, n, APPLICATION)
         }),
     ]
 }

@@ -4,21 +4,27 @@
 //! most inputs get as far as their message does.
 
 use crate::layout::{Choice, Input};
+use crate::message::{composed, length, message, place, room, user_data};
 use crate::structure::swell;
 use crate::tables::{SPECIAL, VALUES};
 use decoder::generate::{Piece, NAMES};
 use decoder::sample::{IBM, MADE_UP};
-use decoder::{Activity, Event, Level, Settings, Sheet, Values};
+use decoder::{Activity, Embedding, Event, Layout, Level, Settings, Sheet, Values};
+use differential::compare::compose::Draft;
+use differential::compare::given::Given;
 use differential::compare::numbers::Spare;
 use differential::guard::Edge;
 
 /// All arguments.
 #[derive(Clone, Debug)]
 pub struct Case {
+    pub layout: Layout,
     pub buffer: Vec<u8>,
     pub length: usize,
     pub sheet: Sheet,
-    pub values: Values,
+    values: Values,
+    embedding: Embedding,
+    pub user_data: Vec<u8>,
     pub composed: usize,
     pub place: usize,
     pub depth: u32,
@@ -36,15 +42,19 @@ impl Case {
         let group = group(input);
         let message = message(input, group.len());
         let size = message.len() + room(input, group.len());
-        let length = length(input, message.len(), size);
+        let length = length(input, &message, size);
+        let user_data = user_data(input);
         Case {
+            layout: input.layout(),
+            place: place(input, &message, length),
             // What stands behind the message looks like one too.
             buffer: message.iter().copied().cycle().take(size).collect(),
             length,
             sheet: sheet(input),
             values: values(input),
-            composed: composed(input),
-            place: place(input, length),
+            embedding: Embedding::of(&input.message).unwrap_or(Embedding::NONE),
+            composed: composed(input, user_data.len()),
+            user_data,
             depth: depth(input),
             n: number(input),
             identifier: identifier(input),
@@ -56,24 +66,49 @@ impl Case {
         }
     }
 
+    /// The message, lying where the caller has it.
+    pub fn given<'a>(&self, buffer: &'a [u8]) -> Given<'a> {
+        Given {
+            buffer,
+            length: self.length,
+            layout: self.layout,
+            spare: self.spare,
+        }
+    }
+
+    /// What compose is given; the user data lie where the caller has them.
+    pub fn draft<'a>(&self, user_data: &'a [u8]) -> Draft<'a> {
+        Draft {
+            layout: self.layout,
+            sheet: self.sheet,
+            values: self.values,
+            embedding: self.embedding,
+            user_data,
+            spare: self.spare,
+        }
+    }
+
     /// Three events, one after another; the group lies where the caller has it.
     pub fn events<'a>(&self, group: &'a [u8]) -> [Event<'a>; 3] {
         let bit = |place: u8| self.event >> place & 1 == 1;
+        let settings = Settings {
+            // Turned round, so that 0 is what does most.
+            activity_recording: !bit(3),
+            trace_route_messaging: !bit(4),
+            layout: self.layout,
+        };
         let activity = Event::Activity(Activity {
             level: [Level::Low, Level::Medium, Level::High, Level::Low]
                 [usize::from(self.event % 4)],
             group,
-            // Turned round, so that 0 is what does most.
             reports_asked: !bit(2),
-            settings: Settings {
-                activity_recording: !bit(3),
-                trace_route_messaging: !bit(4),
-            },
+            settings,
         });
+        let discontinuity = Event::Discontinuity(settings);
         if bit(5) {
-            [Event::Discontinuity, activity, activity]
+            [discontinuity, activity, activity]
         } else {
-            [activity, Event::Discontinuity, activity]
+            [activity, discontinuity, activity]
         }
     }
 }
@@ -106,56 +141,6 @@ fn group(input: &Input) -> Vec<u8> {
         _ => {}
     }
     group
-}
-
-/// The message as it is, or so long that the group just fits behind it or just
-/// doesn't.
-fn message(input: &Input, group: usize) -> Vec<u8> {
-    let mut message = input.message.clone();
-    let size = match input.choice(Choice::Swell) {
-        1 => 65_536,
-        2 => 65_532,
-        3 => 65_536_usize.saturating_sub(group),
-        4 => 65_540_usize.saturating_sub(group),
-        5 => 65_540,
-        _ => 0,
-    };
-    swell(&mut message, 32, size);
-    message
-}
-
-/// Bytes behind the message: mostly enough for both activities.
-fn room(input: &Input, group: usize) -> usize {
-    match input.choice(Choice::Room) {
-        1 => 0,
-        2 => group.saturating_sub(1),
-        3 => group,
-        4 => (2 * group).saturating_sub(1),
-        5 => 2 * group,
-        6 => 1,
-        other => 2 * group + usize::from(other),
-    }
-}
-
-fn length(input: &Input, message: usize, size: usize) -> usize {
-    match input.choice(Choice::Length) {
-        1 => message.saturating_sub(1),
-        2 => message.saturating_sub(4),
-        3 => message + 1,
-        4 => message + 4,
-        5 => size,
-        6 => size + 1,
-        7 => 0,
-        8 => 35,
-        9 => 36,
-        10 => 65_536,
-        11 => 65_537,
-        12 => 1 << 32,
-        13 => usize::MAX,
-        14 => usize::MAX - 35,
-        15 => input.free() as usize,
-        _ => message,
-    }
 }
 
 fn report(input: &Input, group: usize) -> usize {
@@ -197,32 +182,6 @@ fn values(input: &Input) -> Values {
         *value = table.get(choice).copied().unwrap_or(input.free());
     }
     Values::from_array(values)
-}
-
-fn composed(input: &Input) -> usize {
-    match input.choice(Choice::Composed) {
-        0 => 200,
-        1 => 180,
-        2 => 179,
-        3 => 181,
-        4 => 65_537,
-        other => usize::from(other),
-    }
-}
-
-fn place(input: &Input, length: usize) -> usize {
-    match input.choice(Choice::Place) {
-        0 => 36,
-        1 => 0,
-        2 => length,
-        3 => length.saturating_sub(1),
-        4 => length.saturating_sub(16),
-        5 => length.saturating_add(1),
-        6 => usize::MAX,
-        7 => usize::MAX - 15,
-        8 => input.free() as usize,
-        other => 4 * usize::from(other),
-    }
 }
 
 fn depth(input: &Input) -> u32 {

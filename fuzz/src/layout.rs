@@ -1,14 +1,19 @@
 //! The bytes of an input: choices, then the message, then the lent group.
 //!
-//! A PCF header starts with a byte 0, the first of its Type. So an input that
-//! starts with 0 is a plain message, and a file with a message in it is an
-//! input as it stands; the choices are then the ordinary ones. Any other first
-//! byte says that choices come first.
+//! A PCF header starts with a byte 0, the first of its Type, and an embedded
+//! header with `EPH `. So an input that starts with either is a message of that
+//! form, and a file with a message in it is an input as it stands; the choices
+//! are then the ordinary ones. Any other start says that choices come first, and
+//! the first byte's lowest bit which form the message is to be read in.
 
 use crate::structure::{put_word, word};
+use decoder::{Form, Layout};
 
 /// Bytes that the choices take.
 pub const CHOICES: usize = 30;
+
+/// What an embedded message starts with.
+pub const IDENTIFIER: [u8; 4] = *b"EPH ";
 
 /// What one byte chooses, by its place. 0 is always the ordinary choice.
 #[derive(Clone, Copy, Debug)]
@@ -33,7 +38,8 @@ pub enum Choice {
     /// Place and depth of one structure.
     Place,
     Depth,
-    /// Whether the message is swollen to a size near the largest.
+    /// Whether the message is swollen to a size near the largest, and the user
+    /// data that compose is given with it.
     Swell,
     /// What becomes of the lent group.
     Group,
@@ -43,6 +49,9 @@ pub enum Choice {
     Edge,
 }
 
+/// Where the form is chosen: an odd number is the plain one, an even one, which
+/// is not 0, the embedded one.
+const FORM: usize = 0;
 /// How many bytes at the input's end are the lent group.
 const GROUP_LENGTH: usize = 16;
 /// One choice for each of the eight values.
@@ -60,21 +69,23 @@ pub struct Input {
 }
 
 impl Input {
-    /// A message with the ordinary choices.
-    pub fn plain(message: &[u8]) -> Input {
-        let mut choices = [0; CHOICES];
-        choices[0] = 1;
-        Input {
-            choices,
+    /// A message to be read in this form, with the ordinary choices.
+    pub fn new(message: &[u8], layout: Layout) -> Input {
+        let input = Input {
+            choices: [0; CHOICES],
             message: message.to_vec(),
             group: Vec::new(),
-        }
+        };
+        input.in_layout(layout)
     }
 
     pub fn parse(bytes: &[u8]) -> Input {
+        if bytes.starts_with(&IDENTIFIER) {
+            return Input::new(bytes, Layout::EMBEDDED);
+        }
         let choices = match bytes.first_chunk::<CHOICES>() {
-            Some(choices) if choices[0] != 0 => *choices,
-            _ => return Input::plain(bytes),
+            Some(choices) if choices[FORM] != 0 => *choices,
+            _ => return Input::new(bytes, Layout::PLAIN),
         };
         let length = u16::from_be_bytes([choices[GROUP_LENGTH], choices[GROUP_LENGTH + 1]]);
         let rest = &bytes[CHOICES..];
@@ -93,6 +104,23 @@ impl Input {
         let length = u16::try_from(self.group.len()).unwrap_or(u16::MAX);
         choices[GROUP_LENGTH..GROUP_LENGTH + 2].copy_from_slice(&length.to_be_bytes());
         [&choices[..], &self.message, &self.group].concat()
+    }
+
+    /// The form that the message is to be read in.
+    pub fn layout(&self) -> Layout {
+        if self.choices[FORM].is_multiple_of(2) {
+            Layout::EMBEDDED
+        } else {
+            Layout::PLAIN
+        }
+    }
+
+    pub fn in_layout(mut self, layout: Layout) -> Input {
+        self.choices[FORM] = match layout.form {
+            Form::Plain => 1,
+            Form::Embedded => 2,
+        };
+        self
     }
 
     pub fn choice(&self, which: Choice) -> u8 {

@@ -10,10 +10,12 @@
 
 pub mod case;
 pub mod compare;
+mod embedded;
 #[cfg(feature = "engine")]
 mod engine;
 pub mod layout;
 pub mod mend;
+mod message;
 pub mod mutate;
 mod structure;
 pub mod tables;

@@ -1,8 +1,9 @@
 //! Sound messages of what a mutation left: counts are made to say how many
 //! structures are there, and what stands behind the first faulty one goes.
 
+use crate::embedded::on_part;
 use crate::structure::put_word;
-use decoder::{Header, HEADER_LENGTH};
+use decoder::{Header, Layout, HEADER_LENGTH};
 
 /// A count that is being met.
 struct Open {
@@ -11,13 +12,19 @@ struct Open {
     met: u32,
 }
 
-/// Mends a message; its header becomes a trace's.
-pub fn mend(message: &mut Vec<u8>) {
-    message.resize(message.len().max(HEADER_LENGTH), 0);
+/// Mends a message; its header becomes a trace's, and an embedded header in
+/// front of that says where the structures end. User data stay.
+pub fn mend(message: &mut Vec<u8>, layout: Layout) {
+    on_part(message, layout, mend_part);
+}
+
+/// Mends a PCF part, which a plain message is as a whole.
+fn mend_part(part: &mut Vec<u8>) {
+    part.resize(part.len().max(HEADER_LENGTH), 0);
     for (index, field) in Header::TRACE_ROUTE.fields().into_iter().enumerate() {
-        put_word(message, 4 * index, field);
+        put_word(part, 4 * index, field);
     }
-    mend_structures(message, u32::MAX);
+    mend_structures(part, u32::MAX);
 }
 
 /// Mends a lent group as the only structure of a message.
@@ -29,7 +36,7 @@ pub fn mend_group(group: &mut Vec<u8>) {
 }
 
 /// Keeps structures while they are sound, at most `due` at top level.
-fn mend_structures(message: &mut Vec<u8>, due: u32) {
+fn mend_structures(part: &mut Vec<u8>, due: u32) {
     let count = |place, due| Open { place, due, met: 0 };
     let mut open = vec![count(32, due)];
     let mut place = HEADER_LENGTH;
@@ -43,17 +50,16 @@ fn mend_structures(message: &mut Vec<u8>, due: u32) {
             open.pop();
             continue;
         }
-        let Ok((row, behind)) = decoder::step(message, message.len(), place, depth) else {
-            break;
-        };
+        let step = decoder::step(part, part.len(), Layout::PLAIN, place, depth);
+        let Ok((row, behind)) = step else { break };
         group.met += 1;
         if let Some(members) = row.count {
             open.push(count(row.place + 12, members));
         }
         place = behind;
     }
-    message.truncate(place);
+    part.truncate(place);
     for group in open {
-        put_word(message, group.place, group.met);
+        put_word(part, group.place, group.met);
     }
 }

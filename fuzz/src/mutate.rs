@@ -1,15 +1,16 @@
 //! Changes that keep structures whole. The engine's own changes seldom leave a
 //! message sound, and what lies behind a sound message would be met too late.
 
+use crate::embedded::{change_header, change_user_data, on_part, turn};
 use crate::layout::{Input, CHOICES};
 use crate::mend::{mend, mend_group};
 use crate::structure::{put_word, raise};
 use crate::tables::VALUES;
 use decoder::generate::{
-    chain, damage, lent_group, sound_group, tree, values, Piece, Random, NAMES,
+    chain, damage, lent_group, other_layout, sound_group, tree, values, Piece, Random, NAMES,
 };
 use decoder::sample::{IBM, MADE_UP};
-use decoder::{Row, Sheet, TRACE_ROUTE_GROUP};
+use decoder::{Form, Layout, Row, Sheet, TRACE_ROUTE_GROUP};
 
 /// The engine's own change of bytes.
 pub type Engine<'a> = &'a mut dyn FnMut(&[u8]) -> Vec<u8>;
@@ -17,41 +18,82 @@ pub type Engine<'a> = &'a mut dyn FnMut(&[u8]) -> Vec<u8>;
 /// The input with one change, in the message, the group or a choice.
 pub fn mutate(bytes: &[u8], random: &mut Random, engine: Engine) -> Vec<u8> {
     let mut input = Input::parse(bytes);
-    match random.below(12) {
-        0..=2 => return engine(bytes),
+    let layout = input.layout();
+    match random.below(14) {
+        0..=2 => return engine_alone(bytes, random, engine),
         3 => {
             input.message = engine(&input.message);
-            mend(&mut input.message);
+            mend(&mut input.message, layout);
         }
         4 => {
             input.group = engine(&input.group);
             mend_group(&mut input.group);
         }
         5 | 6 => choose(&mut input.choices, random),
-        7 => damage(random, &mut input.message),
+        7 => damage(random, layout, &mut input.message),
         8 => input.group = lent_group(random, &Sheet::new(MADE_UP)),
-        _ => edit(&mut input.message, random),
+        9 => {
+            // Now and then the message stays as it was, and is read wrongly.
+            if random.chance(80) {
+                turn(&mut input.message, layout, random);
+            }
+            input = input.in_layout(other_layout(layout));
+        }
+        10 | 11 if layout.form == Form::Embedded => around(&mut input.message, random),
+        _ => {
+            mend(&mut input.message, layout);
+            on_part(&mut input.message, layout, |part| edit(part, random));
+        }
     }
     input.bytes()
 }
 
-/// One choice, mostly to a small number; the first byte stays as a mark.
+/// A change that is the engine's alone. Half of the embedded messages get a sound
+/// embedded header again: few changes of bytes leave StrucLength where the part
+/// ends, and all the others would be refused for it.
+fn engine_alone(bytes: &[u8], random: &mut Random, engine: Engine) -> Vec<u8> {
+    let changed = engine(bytes);
+    let mut input = Input::parse(&changed);
+    let layout = input.layout();
+    if layout.form == Form::Plain || random.chance(50) {
+        return changed;
+    }
+    on_part(&mut input.message, layout, |_| ());
+    input.bytes()
+}
+
+/// What stands around the part of an embedded message.
+fn around(message: &mut Vec<u8>, random: &mut Random) {
+    if random.chance(50) {
+        change_header(message, random);
+    } else {
+        let alike = fresh(random, 1);
+        change_user_data(message, alike, random);
+    }
+}
+
+/// One choice, mostly to a small number; the first byte, which says the form,
+/// stays.
 fn choose(choices: &mut [u8; CHOICES], random: &mut Random) {
     let place = random.between(1, CHOICES - 1);
     choices[place] = if random.chance(50) {
-        random.below(16) as u8
+        random.below(24) as u8
     } else {
         random.word() as u8
     };
 }
 
-/// Edits a sound message by one structure.
+/// All structures of a PCF part that is sound.
+fn rows_of(part: &[u8]) -> Vec<Row> {
+    decoder::rows(part, part.len(), Layout::PLAIN).unwrap_or_default()
+}
+
+/// Edits a sound PCF part by one structure.
 fn edit(message: &mut Vec<u8>, random: &mut Random) {
-    mend(message);
     if random.chance(60) {
         one_trace_route(message, random);
     }
-    let rows = decoder::rows(message, message.len()).unwrap_or_default();
+    let rows = rows_of(message);
     let index = random.below(rows.len() + 1);
     let Some(row) = rows.get(index) else {
         let end = message.len();
@@ -78,7 +120,7 @@ fn edit(message: &mut Vec<u8>, random: &mut Random) {
 
 /// Leaves the message one TraceRoute group, or gives it one.
 fn one_trace_route(message: &mut Vec<u8>, random: &mut Random) {
-    let rows = decoder::rows(message, message.len()).unwrap_or_default();
+    let rows = rows_of(message);
     let top = |row: &&Row| row.depth == 1 && row.is_group() && row.parameter == TRACE_ROUTE_GROUP;
     let mut groups = rows.iter().filter(top);
     if groups.next().is_none() {

@@ -19,18 +19,22 @@ pub fn raise(bytes: &mut [u8], count: usize, by: u32) {
     put_word(bytes, count, raised);
 }
 
-/// Appends one string structure so that there are `size` bytes, and counts it.
-/// What is too long for that stays as it is.
-pub fn swell(bytes: &mut Vec<u8>, count: usize, size: usize) {
-    let place = bytes.len();
-    let length = size.saturating_sub(place);
+/// Puts one string structure of so many bytes at a place, and counts it.
+pub fn put_string(bytes: &mut Vec<u8>, count: usize, place: usize, length: usize) {
     if length < 20 || bytes.len() < count + 4 {
         return;
     }
-    bytes.resize(size, b' ');
+    bytes.splice(place..place, vec![b' '; length]);
     let fields = [4, length as u32, 3001, 0, length as u32 - 20];
     for (index, number) in fields.into_iter().enumerate() {
         put_word(bytes, place + 4 * index, number);
     }
     raise(bytes, count, 1);
+}
+
+/// Appends one string structure so that there are `size` bytes, and counts it.
+/// What is too long for that stays as it is.
+pub fn swell(bytes: &mut Vec<u8>, count: usize, size: usize) {
+    let place = bytes.len();
+    put_string(bytes, count, place, size.saturating_sub(place));
 }

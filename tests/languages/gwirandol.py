@@ -9,7 +9,10 @@
     done = trace.activity(group, gw.Level.LOW, gw.Option.TRACE_ROUTE_MESSAGING)
     print(gw.listing(trace.message))
 
-A refusal is an exception, Refused, with number, place and words. The loader must find libgwirandol.so.0, for instance by
+With embedding=gw.Embedding(format=b"MQSTR   "), user=b"hello", compose makes an embedded message, and gw.Trace(message,
+embedded=True) takes one. The functions that are given a message take `embedded` too; it is never guessed.
+
+A refusal is an exception, Refused, with number, place and words. The loader must find libgwirandol.so.0.5, for instance by
 LD_LIBRARY_PATH. The names are those of gwirandol.h, without the prefixes that C needs.
 """
 
@@ -38,6 +41,7 @@ class Refusal(enum.IntEnum):
     UNSUPPORTED_FORWARDING = 15
     NOT_FORWARDED = 16
     SHEET = 17
+    EMBEDDED_HEADER = 18
 
 
 class Attribute(enum.IntEnum):
@@ -75,6 +79,14 @@ class Option(enum.IntFlag):
     ACTIVITY_RECORDING = 2
     TRACE_ROUTE_MESSAGING = 4
     REMOTE_SUPPORTS = 8
+    EMBEDDED = 16
+
+
+class Field(enum.IntEnum):
+    """The places of the numbers that an embedded header says of the user data."""
+    ENCODING = 0
+    CODED_CHAR_SET_ID = 1
+    FLAGS = 2
 
 
 class Decision(enum.IntEnum):
@@ -94,6 +106,7 @@ class Feedback(enum.IntEnum):
 MOST = 65536
 WORDS_BYTES = 128
 LISTING_BYTES = 131072
+FORMAT_BYTES = 8
 TYPES = 27
 IBM_SHEET = (1234, 1235, 1257, 1237, 1236, 1238, 1259, 1239)
 
@@ -113,10 +126,12 @@ class Part(ctypes.Structure):
 # ctypes takes every result for an int and checks no argument, unless it is told: a 64-bit answer would be cut
 _answer = c_uint64
 _bytes = POINTER(c_uint8)
-_eight = POINTER(c_uint32)
+_numbers = POINTER(c_uint32)
 _message = (_bytes, c_size_t, c_size_t)
+_trace = (*_message, _numbers, c_uint32)
 
-_library = ctypes.CDLL("libgwirandol.so.0")
+# with the minor number: the parameters below are this version's
+_library = ctypes.CDLL("libgwirandol.so.0.5")
 
 
 def _declare(name, result, *arguments):
@@ -126,19 +141,18 @@ def _declare(name, result, *arguments):
     return function
 
 
-_compose = _declare("gw_compose", _answer, _eight, _eight, _bytes, c_size_t)
-_check = _declare("gw_check", _answer, *_message)
-_tally = _declare("gw_tally", _answer, *_message, POINTER(c_uint32))
-_list = _declare("gw_list", _answer, *_message, _bytes)
-_step = _declare("gw_step", _answer, *_message, c_size_t, c_uint32, POINTER(Row))
-_read = _declare("gw_read", _answer, *_message, _eight, _eight)
-_forward = _declare("gw_forward", _answer, *_message, _eight, c_uint32)
-_arrive = _declare("gw_arrive", _answer, *_message, _eight)
-_discontinuity = _declare("gw_discontinuity", _answer, *_message, _eight, POINTER(Done))
-_activity = _declare("gw_activity", _answer, *_message, _eight, c_uint32, c_uint32, _bytes, c_size_t, _bytes, c_size_t,
-                     POINTER(Done))
-_activity_group = _declare("gw_activity_group", None, *_message, _eight, c_size_t, POINTER(Part))
-_named_string = _declare("gw_named_string", c_bool, *_message, _eight, c_size_t, c_uint32, POINTER(Part))
+_compose = _declare("gw_compose", _answer, _numbers, _numbers, c_uint32, _numbers, _bytes, _bytes, c_size_t, _bytes, c_size_t)
+_check = _declare("gw_check", _answer, *_message, c_uint32)
+_tally = _declare("gw_tally", _answer, *_message, c_uint32, _numbers)
+_list = _declare("gw_list", _answer, *_message, c_uint32, _bytes)
+_step = _declare("gw_step", _answer, *_message, c_uint32, c_size_t, c_uint32, POINTER(Row))
+_read = _declare("gw_read", _answer, *_trace, _numbers, _numbers, _bytes)
+_forward = _declare("gw_forward", _answer, *_trace)
+_arrive = _declare("gw_arrive", _answer, *_trace)
+_discontinuity = _declare("gw_discontinuity", _answer, *_trace, POINTER(Done))
+_activity = _declare("gw_activity", _answer, *_trace, c_uint32, _bytes, c_size_t, _bytes, c_size_t, POINTER(Done))
+_activity_group = _declare("gw_activity_group", None, *_trace, c_size_t, POINTER(Part))
+_named_string = _declare("gw_named_string", c_bool, *_trace, c_size_t, c_uint32, POINTER(Part))
 _feedback = _declare("gw_feedback", c_uint32, c_uint32)
 _words = _declare("gw_words", c_size_t, c_uint32, POINTER(c_char))
 _version = _declare("gw_version", c_uint32)
@@ -185,30 +199,49 @@ def _lent(data):
     return (c_uint8 * len(data)).from_buffer_copy(data)
 
 
-def check(message):
+def _form(embedded):
+    return Option.EMBEDDED if embedded else 0
+
+
+def check(message, embedded=False):
     """The number of structures of a message of any kind."""
-    return _given(_check(_lent(message), len(message), len(message)))
+    return _given(_check(_lent(message), len(message), len(message), _form(embedded)))
 
 
-def tally(message):
+def tally(message, embedded=False):
     """The number of structures of each type from 0 to 26."""
     counts = (c_uint32 * TYPES)()
-    _given(_tally(_lent(message), len(message), len(message), counts))
+    _given(_tally(_lent(message), len(message), len(message), _form(embedded), counts))
     return list(counts)
 
 
-def listing(message):
-    """The listing that pcflist prints."""
+def listing(message, embedded=False):
+    """The listing that pcflist prints, or pcflist_embedded."""
     text = (c_uint8 * LISTING_BYTES)()
-    length = _given(_list(_lent(message), len(message), len(message), text))
+    length = _given(_list(_lent(message), len(message), len(message), _form(embedded), text))
     return bytes(text[:length]).decode("ascii")
 
 
-def step(message, place, depth=1):
+def step(message, place, depth=1, embedded=False):
     """The one structure at a place: a Row, whose `next` is the place behind it."""
     row = Row()
-    _given(_step(_lent(message), len(message), len(message), place, depth, byref(row)))
+    _given(_step(_lent(message), len(message), len(message), _form(embedded), place, depth, byref(row)))
     return row
+
+
+@dataclass
+class Embedding:
+    """What an embedded header says of the user data."""
+    encoding: int = 0
+    coded_char_set_id: int = 0
+    format: bytes = bytes(FORMAT_BYTES)
+    flags: int = 0
+
+    def _lend(self):
+        # C takes eight bytes, however many there are
+        if len(self.format) != FORMAT_BYTES:
+            raise ValueError("a format has eight bytes")
+        return (c_uint32 * len(Field))(self.encoding, self.coded_char_set_id, self.flags), _lent(self.format)
 
 
 @dataclass
@@ -222,18 +255,24 @@ class Entered:
 class Trace:
     """A trace-route message, in a buffer that it can grow in."""
 
-    def __init__(self, message, sheet=IBM_SHEET):
+    def __init__(self, message, sheet=IBM_SHEET, embedded=False):
         self._buffer = (c_uint8 * max(MOST, len(message)))()
         self._buffer[:len(message)] = message
         self._length = len(message)
         self._sheet = (c_uint32 * len(Attribute))(*sheet)
+        self._form = _form(embedded)
 
     @classmethod
-    def compose(cls, values, sheet=IBM_SHEET):
-        """A new message with these values, a dictionary by attribute; the counters and the limit may be left out."""
-        trace = cls(b"", sheet)
+    def compose(cls, values, sheet=IBM_SHEET, embedding=None, user=b""):
+        """A new message with these values, a dictionary by attribute; the counters and the limit may be left out. With an
+        embedding it is embedded, and the user data go behind it."""
+        # C would pass over them
+        if user and embedding is None:
+            raise ValueError("a plain message has no user data")
+        trace = cls(b"", sheet, embedding is not None)
         eight = (c_uint32 * len(Attribute))(*(values.get(attribute, 0) for attribute in Attribute))
-        trace._length = _given(_compose(trace._sheet, eight, trace._buffer, len(trace._buffer)))
+        trace._length = _given(_compose(trace._sheet, eight, trace._form, *(embedding or Embedding())._lend(), _lent(user),
+                                        len(user), trace._buffer, len(trace._buffer)))
         return trace
 
     @property
@@ -242,13 +281,26 @@ class Trace:
 
     def values(self):
         """The eight values, a dictionary by attribute."""
-        eight = (c_uint32 * len(Attribute))()
-        _given(_read(*self._lend(), eight))
-        return {attribute: eight[attribute] for attribute in Attribute}
+        return self._read()[0]
+
+    def embedding(self):
+        """What the embedded header says of the user data; zeros of a plain message."""
+        return self._read()[1]
+
+    def user_data(self):
+        """The sender's own data behind an embedded message; a plain one has none."""
+        return self.message[self._read()[2]:]
+
+    def _read(self):
+        """Values, embedding, and the place of the user data."""
+        eight, fields, text = (c_uint32 * len(Attribute))(), (c_uint32 * len(Field))(), (c_uint8 * FORMAT_BYTES)()
+        place = _given(_read(*self._lend(), eight, fields, text))
+        embedding = Embedding(fields[Field.ENCODING], fields[Field.CODED_CHAR_SET_ID], bytes(text), fields[Field.FLAGS])
+        return {attribute: eight[attribute] for attribute in Attribute}, embedding, place
 
     def forward(self, options=0):
         """Whether it may go to a remote queue manager: Option.REMOTE_SUPPORTS says what that one does."""
-        return Decision(_given(_forward(*self._lend(), options)))
+        return Decision(_given(_forward(*self._lend(options))))
 
     def arrive(self):
         """What happens to it at its queue."""
@@ -264,7 +316,7 @@ class Trace:
         """Enters an activity, with its Activity group in bytes."""
         done = Done()
         report = (c_uint8 * MOST)()
-        _given(_activity(*self._lend(), options, level, _lent(group), len(group), report, MOST, byref(done)))
+        _given(_activity(*self._lend(options), level, _lent(group), len(group), report, MOST, byref(done)))
         return self._entered(done, bytes(report[:done.report_length]))
 
     def activity_group(self, n):
@@ -278,8 +330,9 @@ class Trace:
         part = Part()
         return self._bytes_of(part) if _named_string(*self._lend(), n, identifier, byref(part)) else substitute
 
-    def _lend(self):
-        return self._buffer, len(self._buffer), self._length, self._sheet
+    def _lend(self, options=0):
+        # the trace knows its form, whatever the options say; `~` of a flag would take the bits without a name along
+        return self._buffer, len(self._buffer), self._length, self._sheet, options & ~int(Option.EMBEDDED) | self._form
 
     def _bytes_of(self, part):
         return bytes(self._buffer[part.place:part.place + part.length])

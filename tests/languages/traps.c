@@ -34,7 +34,7 @@ static size_t trace(enum gw_attribute attribute, uint32_t value)
         [GW_ATTR_DELIVER] = GW_MQROUTE_DELIVER_NO,
     };
     values[attribute] = value;
-    gw_answer answer = gw_compose(sheet, values, buffer, sizeof buffer);
+    gw_answer answer = gw_compose_plain(sheet, values, buffer, sizeof buffer);
     return gw_number(answer) == GW_ACCEPTED ? gw_value(answer) : 0;
 }
 
@@ -45,14 +45,24 @@ static gw_done activity(size_t length, uint32_t options, uint32_t level)
     return done;
 }
 
+/* What a plain trace of this length reads as. */
+static const uint32_t *values_of(size_t length)
+{
+    static uint32_t read[GW_ATTRIBUTES];
+    uint32_t fields[GW_FIELDS];
+    uint8_t format[GW_FORMAT_BYTES];
+    memset(read, 0, sizeof read);
+    gw_read(buffer, sizeof buffer, length, sheet, 0, read, fields, format);
+    return read;
+}
+
 static void positions(void)
 {
-    uint32_t read[GW_ATTRIBUTES] = {0};
-    gw_read(buffer, sizeof buffer, trace(GW_ATTR_DETAIL, GW_LEVEL_MEDIUM), sheet, read);
+    const uint32_t *read = values_of(trace(GW_ATTR_DETAIL, GW_LEVEL_MEDIUM));
     expect(read[GW_ATTR_DETAIL] == GW_MQROUTE_DETAIL_MEDIUM, "a medium trace is composed");
-    gw_read(buffer, sizeof buffer, trace(GW_ATTR_MAX_ACTIVITIES, 7), sheet, read);
+    read = values_of(trace(GW_ATTR_MAX_ACTIVITIES, 7));
     expect(GW_ATTR_MAX_ACTIVITIES == 4 && read[4] == 7, "the limit has its position");
-    gw_read(buffer, sizeof buffer, trace(GW_ATTR_FORWARD, GW_MQROUTE_FORWARD_IF_SUPPORTED), sheet, read);
+    read = values_of(trace(GW_ATTR_FORWARD, GW_MQROUTE_FORWARD_IF_SUPPORTED));
     expect(GW_ATTR_FORWARD == 6 && read[6] == GW_MQROUTE_FORWARD_IF_SUPPORTED, "forwarding has its position");
 }
 
@@ -67,22 +77,49 @@ static void levels(void)
 
 static void options(void)
 {
+    const uint32_t others = ~(three | GW_OPTION_EMBEDDED);
     static uint8_t before[sizeof buffer];
     gw_done plain = activity(trace(GW_ATTR_MAX_ACTIVITIES, 0), three, GW_LEVEL_LOW);
     memcpy(before, buffer, sizeof buffer);
-    gw_done noisy = activity(trace(GW_ATTR_MAX_ACTIVITIES, 0), 0xFFFFFFFF, GW_LEVEL_LOW);
-    expect(memcmp(&plain, &noisy, sizeof plain) == 0 && plain.appended == 1, "an activity looks at three bits only");
+    gw_done noisy = activity(trace(GW_ATTR_MAX_ACTIVITIES, 0), others | three, GW_LEVEL_LOW);
+    expect(memcmp(&plain, &noisy, sizeof plain) == 0 && plain.appended == 1, "beside the form an activity looks at three bits");
     expect(memcmp(before, buffer, sizeof buffer) == 0, "and leaves the same message");
     const uint32_t alone[] = {0, GW_OPTION_REPORTS_ASKED, GW_OPTION_ACTIVITY_RECORDING};
     for (size_t i = 0; i < 3; i++) {
-        gw_done silent = activity(trace(GW_ATTR_MAX_ACTIVITIES, 0), ~three | alone[i], GW_LEVEL_LOW);
+        gw_done silent = activity(trace(GW_ATTR_MAX_ACTIVITIES, 0), others | alone[i], GW_LEVEL_LOW);
         expect(silent.counter == GW_ATTR_UNRECORDED_ACTIVITIES && silent.report_length == 0, "no other bit makes up for it");
     }
     size_t length = trace(GW_ATTR_FORWARD, GW_MQROUTE_FORWARD_IF_SUPPORTED);
     gw_answer supported = gw_forward(buffer, sizeof buffer, length, sheet, GW_OPTION_REMOTE_SUPPORTS);
-    gw_answer unsupported = gw_forward(buffer, sizeof buffer, length, sheet, ~(uint32_t)GW_OPTION_REMOTE_SUPPORTS);
+    gw_answer unsupported = gw_forward(buffer, sizeof buffer, length, sheet,
+                                       ~(uint32_t)(GW_OPTION_REMOTE_SUPPORTS | GW_OPTION_EMBEDDED));
     expect(supported == GW_DECIDED_FORWARD * 32, "forwarding looks at its bit");
     expect(unsupported == GW_REFUSED_NOT_FORWARDED, "and at no other");
+}
+
+/* The form is a bit too: forgotten at one call, that call refuses. */
+static void embedded(void)
+{
+    const uint32_t values[GW_ATTRIBUTES] = {GW_LEVEL_LOW, 0, 0, 0, 0, GW_MQROUTE_ACCUMULATE_IN_MSG, GW_MQROUTE_FORWARD_ALL,
+                                            GW_MQROUTE_DELIVER_NO};
+    const uint32_t fields[GW_FIELDS] = {[GW_FIELD_ENCODING] = 273, [GW_FIELD_CODED_CHAR_SET_ID] = 819, [GW_FIELD_FLAGS] = 1};
+    const uint8_t format[GW_FORMAT_BYTES] = {'M', 'Q', 'S', 'T', 'R', ' ', ' ', ' '};
+    static const uint8_t user[] = {'h', 'e', 'l', 'l', 'o'};
+    uint32_t read[GW_ATTRIBUTES], read_fields[GW_FIELDS] = {0};
+    uint8_t read_format[GW_FORMAT_BYTES] = {0};
+    gw_answer composed = gw_compose(sheet, values, GW_OPTION_EMBEDDED, fields, format, user, sizeof user, buffer, sizeof buffer);
+    size_t length = gw_value(composed);
+    expect(composed == 217 * 32, "212 bytes and the user data");
+    expect(gw_check(buffer, sizeof buffer, length, 0) == GW_REFUSED_HEADER, "what is embedded is not plain");
+    expect(activity(length, three, GW_LEVEL_LOW).counter == 99, "nor for an activity");
+    length = activity(length, three | GW_OPTION_EMBEDDED, GW_LEVEL_LOW).message_length;
+    gw_answer place = gw_read(buffer, sizeof buffer, length, sheet, GW_OPTION_EMBEDDED, read, read_fields, read_format);
+    expect(place == (212 + sizeof group) * 32 && length - gw_value(place) == sizeof user, "the user data have moved");
+    expect(memcmp(buffer + gw_value(place), user, sizeof user) == 0, "unharmed");
+    expect(memcmp(read_fields, fields, sizeof fields) == 0, "and so are the fields");
+    expect(memcmp(read_format, format, sizeof format) == 0, "and the format");
+    length = trace(GW_ATTR_DETAIL, GW_LEVEL_LOW);
+    expect(gw_check(buffer, sizeof buffer, length, GW_OPTION_EMBEDDED) == GW_REFUSED_EMBEDDED_HEADER, "plain is not embedded");
 }
 
 static void feedbacks(void)
@@ -100,11 +137,11 @@ static void words(void)
     memset(text, '#', sizeof text);
     expect(gw_words(GW_ACCEPTED, text) == 8 && strcmp(text, "accepted") == 0 && text[9] == '#', "0 is accepted");
     expect(strcmp(gw_in_words(GW_ACCEPTED).text, "accepted") == 0, "by value too");
-    expect(strcmp(gw_in_words(18).text, "no refusal has this number") == 0, "18 is no refusal");
-    for (uint32_t number = 0; number < 18; number++) {
+    expect(strcmp(gw_in_words(19).text, "no refusal has this number") == 0, "19 is no refusal");
+    for (uint32_t number = 0; number < 19; number++) {
         size_t length = gw_words(number, text);
         expect(length > 0 && strlen(text) == length && length < GW_WORDS_BYTES, "every refusal has words");
-        expect(strcmp(text, gw_in_words(18).text) != 0, "of its own");
+        expect(strcmp(text, gw_in_words(19).text) != 0, "of its own");
     }
 }
 
@@ -122,6 +159,7 @@ int main(int argc, char **argv)
     positions();
     levels();
     options();
+    embedded();
     feedbacks();
     words();
     version(argc > 1 ? argv[1] : "");

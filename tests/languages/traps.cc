@@ -23,6 +23,14 @@ void expect(bool holds, const std::string &what)
 
 using Eight = std::array<uint32_t, GW_ATTRIBUTES>;
 
+// What an embedded header says of the user data.
+struct Embedding {
+    std::array<uint32_t, GW_FIELDS> fields;
+    std::array<uint8_t, GW_FORMAT_BYTES> format;
+};
+
+constexpr Embedding embedding = {{273, 0xFFFFFFFF, 0x80000001}, {'M', 'Q', 'S', 'T', 'R', ' ', ' ', 0xFF}};
+
 constexpr Eight sheet = {GW_IBM_SHEET};
 constexpr uint32_t three = GW_OPTION_REPORTS_ASKED | GW_OPTION_ACTIVITY_RECORDING | GW_OPTION_TRACE_ROUTE_MESSAGING;
 
@@ -42,21 +50,48 @@ public:
         values[GW_ATTR_FORWARD] = GW_MQROUTE_FORWARD_ALL;
         values[GW_ATTR_DELIVER] = GW_MQROUTE_DELIVER_NO;
         values[attribute] = value;
-        gw_answer answer = gw_compose(sheet.data(), values.data(), buffer.data(), buffer.size());
+        gw_answer answer = gw_compose_plain(sheet.data(), values.data(), buffer.data(), buffer.size());
+        length = gw_number(answer) == GW_ACCEPTED ? gw_value(answer) : 0;
+    }
+
+    // embedded, with user data
+    explicit Trace(const std::string &user) : form(GW_OPTION_EMBEDDED)
+    {
+        constexpr Eight values = {GW_LEVEL_LOW, 0, 0, 0, 0, GW_MQROUTE_ACCUMULATE_IN_MSG, GW_MQROUTE_FORWARD_ALL,
+                                  GW_MQROUTE_DELIVER_NO};
+        gw_answer answer = gw_compose(sheet.data(), values.data(), form, embedding.fields.data(), embedding.format.data(),
+                                      reinterpret_cast<const uint8_t *>(user.data()), user.size(), buffer.data(), buffer.size());
         length = gw_number(answer) == GW_ACCEPTED ? gw_value(answer) : 0;
     }
 
     std::optional<Eight> read() const
     {
         Eight values{};
-        gw_answer answer = gw_read(buffer.data(), buffer.size(), length, sheet.data(), values.data());
-        return gw_number(answer) == GW_ACCEPTED ? std::optional(values) : std::nullopt;
+        Embedding said{};
+        return user_data(values, said) ? std::optional(values) : std::nullopt;
+    }
+
+    // the user data, and what the message says beside them
+    std::optional<std::string> user_data(Eight &values, Embedding &said) const
+    {
+        gw_answer answer = gw_read(buffer.data(), buffer.size(), length, sheet.data(), form, values.data(), said.fields.data(),
+                                   said.format.data());
+        if (gw_number(answer) != GW_ACCEPTED) {
+            return std::nullopt;
+        }
+        auto all = bytes();
+        return std::string(all.begin() + static_cast<std::ptrdiff_t>(gw_value(answer)), all.end());
+    }
+
+    gw_answer check(uint32_t options) const
+    {
+        return gw_check(buffer.data(), buffer.size(), length, options);
     }
 
     gw_done activity(uint32_t options, uint32_t level)
     {
         gw_done done = {99, 99, 99, 99};
-        gw_answer answer = gw_activity(buffer.data(), buffer.size(), length, sheet.data(), options, level, group.data(),
+        gw_answer answer = gw_activity(buffer.data(), buffer.size(), length, sheet.data(), options | form, level, group.data(),
                                        group.size(), report.data(), report.size(), &done);
         if (gw_number(answer) == GW_ACCEPTED) {
             length = gw_value(answer);
@@ -66,7 +101,7 @@ public:
 
     gw_answer forward(uint32_t options) const
     {
-        return gw_forward(buffer.data(), buffer.size(), length, sheet.data(), options);
+        return gw_forward(buffer.data(), buffer.size(), length, sheet.data(), options | form);
     }
 
     std::vector<uint8_t> bytes() const
@@ -78,6 +113,7 @@ private:
     std::vector<uint8_t> buffer = std::vector<uint8_t>(1000);
     std::vector<uint8_t> report = std::vector<uint8_t>(1000);
     size_t length = 0;
+    uint32_t form = 0;
 };
 
 void positions()
@@ -105,19 +141,37 @@ void levels()
 
 void options()
 {
+    constexpr uint32_t others = ~(three | GW_OPTION_EMBEDDED);
     Trace plain(GW_ATTR_MAX_ACTIVITIES, 0), noisy(GW_ATTR_MAX_ACTIVITIES, 0);
     gw_done done = plain.activity(three, GW_LEVEL_LOW);
     expect(done.appended == 1 && done.report_length == 36 + group.size(), "three bits append and report");
-    noisy.activity(0xFFFFFFFF, GW_LEVEL_LOW);
-    expect(plain.bytes() == noisy.bytes(), "an activity looks at three bits only");
+    noisy.activity(others | three, GW_LEVEL_LOW);
+    expect(plain.bytes() == noisy.bytes(), "beside the form an activity looks at three bits");
     for (uint32_t alone : std::vector<uint32_t>{0, GW_OPTION_REPORTS_ASKED, GW_OPTION_ACTIVITY_RECORDING}) {
         Trace silent(GW_ATTR_MAX_ACTIVITIES, 0);
-        uint64_t counter = silent.activity(~three | alone, GW_LEVEL_LOW).counter;
+        uint64_t counter = silent.activity(others | alone, GW_LEVEL_LOW).counter;
         expect(counter == GW_ATTR_UNRECORDED_ACTIVITIES, "no other bit makes up for it");
     }
     Trace supported(GW_ATTR_FORWARD, GW_MQROUTE_FORWARD_IF_SUPPORTED);
     expect(gw_value(supported.forward(GW_OPTION_REMOTE_SUPPORTS)) == GW_DECIDED_FORWARD, "forwarding looks at its bit");
-    expect(gw_number(supported.forward(~uint32_t{GW_OPTION_REMOTE_SUPPORTS})) == GW_REFUSED_NOT_FORWARDED, "and at no other");
+    uint32_t silent = others & ~uint32_t{GW_OPTION_REMOTE_SUPPORTS};
+    expect(gw_number(supported.forward(silent)) == GW_REFUSED_NOT_FORWARDED, "and at no other");
+}
+
+void embedded()
+{
+    for (const std::string &user : {std::string(), std::string("!"), std::string("he\0llo", 6), std::string(200, 'x')}) {
+        Trace trace(user);
+        Eight values{};
+        Embedding said{};
+        expect(trace.bytes().size() == 212 + user.size() && trace.user_data(values, said) == user, "the user data are there");
+        expect(said.fields == embedding.fields && said.format == embedding.format, "and what is said of them");
+        expect(trace.activity(three, GW_LEVEL_LOW).appended == 1 && trace.user_data(values, said) == user, "they move unharmed");
+        expect(values[GW_ATTR_RECORDED_ACTIVITIES] == 1, "and the activity is counted");
+        expect(trace.check(GW_OPTION_EMBEDDED) == 11 * 32 && trace.check(0) == GW_REFUSED_HEADER, "what is embedded is not plain");
+    }
+    Trace plain(GW_ATTR_MAX_ACTIVITIES, 0);
+    expect(plain.check(0) == 9 * 32 && plain.check(GW_OPTION_EMBEDDED) == GW_REFUSED_EMBEDDED_HEADER, "nor plain embedded");
 }
 
 void feedbacks()
@@ -138,11 +192,11 @@ void words()
 {
     expect(std::string(gw_in_words(GW_ACCEPTED).text) == "accepted", "0 is accepted");
     std::set<std::string> all;
-    for (uint32_t number = 0; number <= 18; number++) {
+    for (uint32_t number = 0; number <= 19; number++) {
         std::array<char, GW_WORDS_BYTES> text{};
         all.emplace(text.data(), gw_words(number, text.data()));
     }
-    expect(all.size() == 19 && all.count("no refusal has this number") == 1, "each refusal has words of its own");
+    expect(all.size() == 20 && all.count("no refusal has this number") == 1, "each refusal has words of its own");
 }
 
 } // namespace
@@ -152,6 +206,7 @@ int main(int argc, char **argv)
     positions();
     levels();
     options();
+    embedded();
     feedbacks();
     words();
     expect(gw_version() == GW_VERSION, "library and header have one version");

@@ -48,11 +48,12 @@ def numbers(file):
     lines = pathlib.Path(file).read_text().splitlines()
     header = {name: int(value) for name, value in map(str.split, lines)}
     prefixes = {gw.Refusal: "GW_REFUSED_", gw.Attribute: "GW_ATTR_", gw.Level: "GW_LEVEL_", gw.Route: "GW_MQROUTE_",
-                gw.Option: "GW_OPTION_", gw.Decision: "GW_DECIDED_", gw.Feedback: "GW_MQFB_"}
+                gw.Option: "GW_OPTION_", gw.Field: "GW_FIELD_", gw.Decision: "GW_DECIDED_", gw.Feedback: "GW_MQFB_"}
     ours = {prefix + member.name: member.value for kind, prefix in prefixes.items() for member in kind}
     ours["GW_ACCEPTED"] = ours.pop("GW_REFUSED_ACCEPTED")
     ours.update({"GW_MQROUTE_DETAIL_" + level.name: level.value for level in gw.Level})
-    ours.update({"GW_WORDS_BYTES": gw.WORDS_BYTES, "GW_LISTING_BYTES": gw.LISTING_BYTES, "GW_ATTRIBUTES": len(gw.Attribute)})
+    ours.update({"GW_WORDS_BYTES": gw.WORDS_BYTES, "GW_LISTING_BYTES": gw.LISTING_BYTES, "GW_ATTRIBUTES": len(gw.Attribute),
+                 "GW_FORMAT_BYTES": gw.FORMAT_BYTES, "GW_FIELDS": len(gw.Field)})
     ours.update({"GW_IBM_SHEET[%d]" % place: identifier for place, identifier in enumerate(gw.IBM_SHEET)})
     theirs = {name for name in header if name.startswith(tuple(prefixes.values()))}
     for name in sorted(set(ours) | theirs):
@@ -77,7 +78,8 @@ def levels():
 
 def options():
     plain, noisy = trace(), trace()
-    expect(plain.activity(GROUP, LOW, ALL) == noisy.activity(GROUP, LOW, 0xFFFFFFFF), "an activity looks at three bits only")
+    same = plain.activity(GROUP, LOW, ALL) == noisy.activity(GROUP, LOW, 0xFFFFFFFF)
+    expect(same, "beside the form an activity looks at three bits")
     expect(plain.message == noisy.message, "and leaves the same message")
     for alone in (0, gw.Option.REPORTS_ASKED, gw.Option.ACTIVITY_RECORDING):
         silent = trace().activity(GROUP, LOW, 0xFFFFFFF8 | alone)
@@ -102,8 +104,8 @@ def feedbacks():
 
 def in_words():
     expect(gw.words(0) == "accepted", "0 is accepted")
-    expect(gw.words(18) == gw.words(2**32 - 1) == "no refusal has this number", "numbers that are no refusals")
-    expect(len({gw.words(number) for number in range(19)}) == 19, "each refusal has words of its own")
+    expect(gw.words(19) == gw.words(2**32 - 1) == "no refusal has this number", "numbers that are no refusals")
+    expect(len({gw.words(number) for number in range(20)}) == 20, "each refusal has words of its own")
 
 
 def messages():
@@ -123,11 +125,48 @@ def messages():
     expect(refusal(gw.Trace.compose, values(), [1] * 8).number == gw.Refusal.SHEET, "a sheet that is none")
 
 
+# What a sender says of its user data; and some that read like a structure.
+EMBEDDING = gw.Embedding(273, 0xFFFFFFFF, b"MQSTR  \0", 0x80000001)
+USER = struct.pack(">4I", 3, 16, 1234, 2) + b"!"
+
+
+def embedded():
+    """The same, embedded."""
+    some = gw.Trace.compose(values(MAX_ACTIVITIES=2), embedding=EMBEDDING, user=USER)
+    expect(some.message == b"EPH " + struct.pack(">4I", 1, 212, 273, 0xFFFFFFFF) + b"MQSTR  \0" + struct.pack(">I", 0x80000001)
+           + trace(MAX_ACTIVITIES=2).message + USER, "header, PCF part and user data")
+    expect(some.activity(GROUP, LOW, ALL).report == trace().activity(GROUP, LOW, ALL).report, "a report is plain")
+    some.discontinuity()
+    expect(some.embedding() == EMBEDDING and some.user_data() == USER, "the user data come through unharmed")
+    expect(some.values()[RECORDED] == 1 and some.values()[gw.Attribute.DISCONTINUITY_COUNT] == 1, "the values")
+    expect(some.forward() == gw.Decision.FORWARD and some.arrive() == gw.Decision.PUT, "the decisions")
+    expect(refusal(some.discontinuity).number == gw.Refusal.MAX_ACTIVITIES, "the limit")
+    expect(some.activity_group(0) == GROUP and some.name(0, 3024) == b"python", "groups and names")
+    expect(gw.check(some.message, embedded=True) == 11, "no structure in user data")
+    expect(gw.tally(some.message, embedded=True)[3] == 8, "nor one that is counted")
+    expect(gw.listing(some.message, embedded=True).splitlines()[-3:] == ["1 212 20 8005 16", "2 228 4 3024 28", "end 11"], "places")
+    expect(gw.step(some.message, 212, embedded=True).next == 228, "one structure")
+    expect(refusal(gw.step, some.message, 256, 1, True).number == gw.Refusal.STRUCTURE, "and none behind the PCF part")
+    expect(gw.Trace.compose(values(), embedding=EMBEDDING).user_data() == trace().user_data() == b"", "none, and plain none")
+    expect(trace().embedding() == gw.Embedding(), "nor anything that is said of them")
+
+
+def forms():
+    """A message is what its caller says."""
+    plain, around = trace(), gw.Trace.compose(values(), embedding=EMBEDDING, user=USER)
+    for call in (gw.check, gw.tally, gw.listing, lambda message, embedded: gw.Trace(message, embedded=embedded).values()):
+        expect(refusal(call, plain.message, True).number == gw.Refusal.EMBEDDED_HEADER, "plain is not embedded")
+        expect(refusal(call, around.message, False).number == gw.Refusal.HEADER, "embedded is not plain")
+        expect(refusal(call, around.message[:67], True).number == gw.Refusal.LENGTH, "67 bytes are too few")
+        expect(refusal(call, around.message[:211], True).number == gw.Refusal.EMBEDDED_HEADER, "the PCF part is in the message")
+    expect(gw.Trace(around.message, embedded=True).user_data() == USER, "taken as it is")
+
+
 def main():
     version = numbers(sys.argv[1])
     major, minor, patch = map(int, sys.argv[2].split("."))
     expect(gw.version() == version == major * 1000000 + minor * 1000 + patch, "library, header and pkg-config have one version")
-    for part in (positions, levels, options, feedbacks, in_words, messages):
+    for part in (positions, levels, options, feedbacks, in_words, messages, embedded, forms):
         part()
     sys.exit(failures != 0)
 

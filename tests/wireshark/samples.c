@@ -166,7 +166,7 @@ static void compose(uint32_t detail)
         [GW_ATTR_FORWARD] = GW_MQROUTE_FORWARD_IF_SUPPORTED | 0x10000,
         [GW_ATTR_DELIVER] = GW_MQROUTE_DELIVER_YES,
     };
-    gw_answer answer = gw_compose(sheet, values, message, sizeof message);
+    gw_answer answer = gw_compose_plain(sheet, values, message, sizeof message);
     must(answer, "compose");
     length = gw_value(answer);
 }
@@ -209,7 +209,7 @@ int main(int argc, char **argv)
     save(argv[1], "composed", message, length);
 
     gw_done done;
-    must(gw_discontinuity(message, sizeof message, length, sheet, &done), "discontinuity");
+    must(gw_discontinuity(message, sizeof message, length, sheet, 0, &done), "discontinuity");
     save(argv[1], "after a discontinuity", message, length);
 
     compose(GW_MQROUTE_DETAIL_LOW);

@@ -9,32 +9,33 @@ use lib.Seq.{length-take-le, getD-drop}
 use lib.Dec.{ltb, eqb}
 use borrow.Author.Tests.{ltb-true, ltb-false, eqb-true}
 use denote.Ref.{RefT}
-use Rattle.meaning.specs.Bytes.{Part, number, num}
+use Rattle.meaning.specs.Bytes.{Part, partOf, number, num}
 use Rattle.meaning.specs.Names.{«MQCFT_STRING», «MQGACF_ACTIVITY»}
 use Rattle.meaning.specs.Answer.{Result, accepted, refused, andThen, consIf}
 use Rattle.meaning.specs.Structure.{Row}
 use Rattle.meaning.specs.Walk.{Walked, walked, walk}
-use Rattle.meaning.specs.Message.{partOf, parameterCount}
+use Rattle.meaning.specs.Layout.{partIn}
+use Rattle.meaning.specs.Message.{parameterCount, firstPlace}
 use Rattle.meaning.specs.Trace.{Terms, Trace, Top, activities, directIn, named, readTrace}
 use Rattle.meaning.specs.Activity.{Span, bytesIn, noGroup, nthActivity, strings, Name, inMessage, substitute, stringAt, trimmedAt, firstName, isPad, trimmed, nameOf, nameBytes}
 use Rattle.meaning.proofs.Tests.{clash, and-true}
 use Rattle.meaning.proofs.Structures.{row-at}
 use Rattle.meaning.proofs.Walks.{walks, here, there, in-nil}
 use Rattle.meaning.proofs.Parts.{row-kind, row-parameter}
-use Rattle.meaning.proofs.Fuel.{walk-zero}
+use Rattle.meaning.proofs.Fuel.{walk-zero, from, walk-from}
 use Rattle.meaning.proofs.Sound.{Sound, sound}
 use Rattle.meaning.proofs.Lists.{take-last}
 use Rattle.meaning.proofs.Strings.{string-data, walks-data}
 use Rattle.meaning.proofs.Trimmed.{trim-pad, trim-other, trim-le}
 use Rattle.trace.specs.Passing.{isSound, Known}
 use Rattle.trace.specs.Groups.{wholeGroup, counted}
-use Rattle.trace.specs.Locations.{Located, located, Readout, traced}
+use Rattle.trace.specs.Locations.{Present, present, Readout, traced, tracedBy}
 use Rattle.activities.specs.Naming.{firstData, stringIn, Gives}
 use Rattle.trace.specs.declared.groups.Group.{Group}
 use Rattle.trace.proofs.Turns.{Over, walk-over}
 use Rattle.trace.proofs.Skipping.{sound-next}
 use Rattle.trace.proofs.Marking.{Every, every-named, every-direct, next-direct}
-use Rattle.trace.proofs.Locating.{nth-walk}
+use Rattle.trace.proofs.Locating.{nth-walk, traced-refused}
 
 -- ONE TURN over direct members
 abbrev isString : ℕ → ℕ → ℕ → Bool
@@ -137,46 +138,47 @@ length-take-most : (n : ℕ) (l : List ℕ) → length (take n l) ≤ n
 length-take-most n l = rw (length-take n l) (omega arith)
 
 -- THE NAME from the data that were found
-module _ (buf : List ℕ) (len : ℕ) where
-  name-none : (rows : List Row) → firstData (partOf buf len) rows ≡ substitute → firstName buf len rows ≡ substitute
+module _ (m : Part) (buf : List ℕ) where
+  name-none : (rows : List Row) → firstData m rows ≡ substitute → firstName m buf rows ≡ substitute
   name-none [] e = refl
   name-none (r ∷ rs) e = absurd (clash (cc))
 
-  name-some : (rows : List Row) (s : Span) → firstData (partOf buf len) rows ≡ inMessage s → firstName buf len rows ≡ inMessage (trimmedAt buf s)
+  name-some : (rows : List Row) (s : Span) → firstData m rows ≡ inMessage s → firstName m buf rows ≡ inMessage (trimmedAt buf s)
   name-some [] s e = absurd (clash (cc))
-  name-some (r ∷ rs) s e = let f : stringAt (partOf buf len) (r .place) ≡ s = cc in ap (λ (x : Span). inMessage (trimmedAt buf x)) f
+  name-some (r ∷ rs) s e = let f : stringAt m (r .place) ≡ s = cc in ap (λ (x : Span). inMessage (trimmedAt buf x)) f
 
-  name-data : (rows : List Row) (s : Span) → firstName buf len rows ≡ inMessage s → (d : Span) × (firstData (partOf buf len) rows ≡ inMessage d) × (trimmedAt buf d ≡ s)
+  name-data : (rows : List Row) (s : Span) → firstName m buf rows ≡ inMessage s → (d : Span) × (firstData m rows ≡ inMessage d) × (trimmedAt buf d ≡ s)
   name-data [] s e = absurd (clash (cc))
-  name-data (r ∷ rs) s e = (stringAt (partOf buf len) (r .place), refl, cc)
+  name-data (r ∷ rs) s e = (stringAt m (r .place), refl, cc)
 
--- a trace that was found, and the Activity group with it
-found-trace : (n : ℕ) (r : Result Trace) (o : Readout) → o ≡ traced n r → o .answer ≡ accepted located
-    → (t : Trace) × (r ≡ accepted t) × (o .activity ≡ counted «MQGACF_ACTIVITY» n (t .rows) .group)
-found-trace n (accepted t) o h f = (t, refl, ap (λ (x : Readout). x .activity) h)
-found-trace n (refused k p) o h f =
-    let e : _≡_ {A = Result Located} (refused k p) (accepted located) = sym (ap (λ (x : Readout). x .answer) h) ∙ f in
+-- a trace that was found, and the Activity group and the part with it
+found-trace : (n : ℕ) (m : Part) (r : Result Trace) (o : Readout) → o ≡ traced n m r → o .answer ≡ accepted present
+    → (t : Trace) × (r ≡ accepted t) × (o .activity ≡ counted «MQGACF_ACTIVITY» n (t .rows) .group) × (o .part .end ≡ m .end)
+found-trace n m (accepted t) o h f = (t, refl, ap (λ (x : Readout). x .activity) h, ap (λ (x : Readout). x .part .end) h)
+found-trace n m (refused k p) o h f =
+    let e : _≡_ {A = Result Present} (refused k p) (accepted present) = sym (ap (λ (x : Readout). x .answer) h) ∙ f in
     absurd (clash (cc))
 
-lost-trace : (n : ℕ) (r : Result Trace) (o : Readout) (k p : ℕ) → o ≡ traced n r → o .answer ≡ refused k p → r ≡ refused k p
-lost-trace n (accepted t) o k p h f =
-    let e : _≡_ {A = Result Located} (accepted located) (refused k p) = sym (ap (λ (x : Readout). x .answer) h) ∙ f in
-    absurd (clash (cc))
-lost-trace n (refused k′ p′) o k p h f =
-    let e : _≡_ {A = Result Located} (refused k′ p′) (refused k p) = sym (ap (λ (x : Readout). x .answer) h) ∙ f in
-    cc
+-- neither the walk nor a string's data looks at where the part starts
+string-from : (buf : List ℕ) (end start : ℕ) (id : ℕ) (w : Result Walked) → stringIn (partOf buf end) id w ≡ stringIn (from start (partOf buf end)) id w
+string-from buf end start id (accepted w) = go (named id (strings (directIn (w .rows))))
+  where
+    go : (rows : List Row) → firstData (partOf buf end) rows ≡ firstData (from start (partOf buf end)) rows
+    go [] = refl
+    go (r ∷ rs) = refl
+string-from buf end start id (refused k p) = refl
 
-module _ (tm : Terms) (buf : List ℕ) (len n id : ℕ) (o : Readout) (h : o ≡ traced n (readTrace tm buf len)) where
+module _ (tm : Terms) (buf : List ℕ) (len n id : ℕ) (o : Readout) (h : o ≡ tracedBy n tm buf len) where
   abbrev m : Part
-  m = partOf buf len
+  m = partIn (tm .layout) buf len
 
   pub name-lost : (k p : ℕ) → o .answer ≡ refused k p → substitute ≡ nameOf tm buf len n id
   unfolding nameOf directIn strings named
-  name-lost k p f = rw (lost-trace n (readTrace tm buf len) o k p h f) refl
+  name-lost k p f = rw (traced-refused n m (readTrace tm buf len) o k p h f) refl
 
-  module _ (f : o .answer ≡ accepted located) where
-    trace : (t : Trace) × (readTrace tm buf len ≡ accepted t) × (o .activity ≡ counted «MQGACF_ACTIVITY» n (t .rows) .group)
-    trace = found-trace n (readTrace tm buf len) o h f
+  module _ (f : o .answer ≡ accepted present) where
+    trace : (t : Trace) × (readTrace tm buf len ≡ accepted t) × (o .activity ≡ counted «MQGACF_ACTIVITY» n (t .rows) .group) × (o .part .end ≡ m .end)
+    trace = found-trace n m (readTrace tm buf len) o h f
 
     facts : Sound tm buf len (trace .0)
     facts = sound tm buf len (trace .0) (trace .1)
@@ -196,53 +198,70 @@ module _ (tm : Terms) (buf : List ℕ) (len n id : ℕ) (o : Readout) (h : o ≡
       where
         go : (b : Bool) → ltb n (length (activities (trace .0 .rows))) ≡ b
             → (q : ℕ) × (walk m (top .row .place + top .row .size) 2 (top .row .members) ≡ walked (top .inside) q)
-        go true e = (_, nth-walk m 36 (parameterCount m) (trace .0 .rows) (facts .message .structures .tree) «MQGACF_ACTIVITY» n (ltb-true n (length (activities (trace .0 .rows))) e))
+        go true e = (_, nth-walk m (firstPlace m) (parameterCount m) (trace .0 .rows) (facts .message .structures .tree) «MQGACF_ACTIVITY» n (ltb-true n (length (activities (trace .0 .rows))) e))
         go false e = rw (List·getD-eq-default (activities (trace .0 .rows)) noGroup (ltb-false n (length (activities (trace .0 .rows))) e)) (0, walk-zero m 0 2)
 
-    pub group-known : Known buf len (walk m (o .activity .inside) 2 (o .activity .members))
-    group-known = record { there = facts .lies .there; most = facts .lies .most; sound = ap isSound (inside .1) }
+    -- the bytes that the code walks over: those up to the part's end
+    abbrev bytes : Part
+    bytes = partOf buf (o .part .end)
 
-    is-name : nameOf tm buf len n id ≡ firstName buf len strings-in
+    abbrev gone : Result Walked
+    gone = walk bytes (o .activity .inside) 2 (o .activity .members)
+
+    same-walk : gone ≡ walk m (o .activity .inside) 2 (o .activity .members)
+    same-walk =
+        ap (λ (end : ℕ). walk (partOf buf end) (o .activity .inside) 2 (o .activity .members)) (trace .3)
+        ∙ sym (walk-from (m .start) (partOf buf (m .end)) (o .activity .inside) 2 (o .activity .members))
+
+    pub group-known : Known buf (o .part .end) gone
+    group-known = record {
+      there = omega (arith, trace .3, facts .lies .within, facts .lies .there);
+      most = omega (arith, trace .3, facts .lies .within, facts .lies .most);
+      sound = ap isSound (same-walk ∙ inside .1);
+    }
+
+    is-name : nameOf tm buf len n id ≡ firstName m buf strings-in
     unfolding nameOf
-    is-name = ap (λ (r : Result Trace). firstName buf len (named id (strings (directIn (nthActivity r n .inside))))) (trace .1)
+    is-name = ap (λ (r : Result Trace). firstName m buf (named id (strings (directIn (nthActivity r n .inside))))) (trace .1)
 
-    found-data : (x : Name) → stringIn m id (walk m (o .activity .inside) 2 (o .activity .members)) ≡ x → firstData m strings-in ≡ x
-    found-data x e = sym (ap (stringIn m id) (inside .1)) ∙ e
+    found-data : (x : Name) → stringIn bytes id gone ≡ x → firstData m strings-in ≡ x
+    found-data x e =
+        sym (ap (λ (end : ℕ). stringIn (partOf buf end) id gone) (trace .3) ∙ string-from buf (m .end) (m .start) id gone ∙ ap (stringIn m id) (same-walk ∙ inside .1)) ∙ e
 
     data-end : (s : Span) → firstData m strings-in ≡ inMessage s → s .place + s .length ≤ length buf
     data-end s e =
         let w = walks m (o .activity .inside) 2 (o .activity .members) (top .inside) (inside .0) (inside .1) in
-        let P : Row → Type 0 = λ r. (r .kind ≡ «MQCFT_STRING» → r .place + 20 + num m (r .place + 16) ≤ len) in
+        let P : Row → Type 0 = λ r. (r .kind ≡ «MQCFT_STRING» → r .place + 20 + num m (r .place + 16) ≤ m .end) in
         let all = every-named (λ r. P r × (r .kind ≡ «MQCFT_STRING»)) id (strings (directIn (top .inside))) (every-string P (directIn (top .inside)) (every-direct P (top .inside) (λ r i. walks-data w r i))) in
         let g = first-of (λ r. P r × (r .kind ≡ «MQCFT_STRING»)) m strings-in s all e in
-        omega (arith, g .1 .0 (g .1 .1), ap (λ (x : Span). x .place) (g .2), ap (λ (x : Span). x .length) (g .2), facts .lies .there)
+        omega (arith, g .1 .0 (g .1 .1), ap (λ (x : Span). x .place) (g .2), ap (λ (x : Span). x .length) (g .2), facts .lies .within, facts .lies .there)
 
-    pub name-missing : stringIn m id (walk m (o .activity .inside) 2 (o .activity .members)) ≡ substitute → substitute ≡ nameOf tm buf len n id
-    name-missing e = sym (is-name ∙ name-none buf len strings-in (found-data substitute e))
+    pub name-missing : stringIn bytes id gone ≡ substitute → substitute ≡ nameOf tm buf len n id
+    name-missing e = sym (is-name ∙ name-none m buf strings-in (found-data substitute e))
 
-    module _ (s : Span) (e : stringIn m id (walk m (o .activity .inside) 2 (o .activity .members)) ≡ inMessage s) where
+    module _ (s : Span) (e : stringIn bytes id gone ≡ inMessage s) where
       pub string-fits : s .place + s .length ≤ length buf
       string-fits = data-end s (found-data (inMessage s) e)
 
       pub name-found : inMessage (trimmedAt buf s) ≡ nameOf tm buf len n id
-      name-found = sym (is-name ∙ name-some buf len strings-in s (found-data (inMessage s) e))
+      name-found = sym (is-name ∙ name-some m buf strings-in s (found-data (inMessage s) e))
 
     -- a name lies in the message
     name-ends : (s : Span) → nameOf tm buf len n id ≡ inMessage s → s .place + s .length ≤ length buf
     name-ends s e =
-        let g = name-data buf len strings-in s (sym is-name ∙ e) in
+        let g = name-data m buf strings-in s (sym is-name ∙ e) in
         omega (arith, data-end (g .0) (g .1), ap (λ (x : Span). x .place) (g .2), ap (λ (x : Span). x .length) (g .2), trim-le (bytesIn buf (g .0)), bytes-le (g .0))
       where
         bytes-le : (d : Span) → length (bytesIn buf d) ≤ d .length
         bytes-le d = length-take-most (d .length) (drop (d .place) buf)
 
 pub name-in : (tm : Terms) (buf : List ℕ) (len n id : ℕ) (s : Span) → nameOf tm buf len n id ≡ inMessage s → s .place + s .length ≤ length buf
-name-in tm buf len n id s e = go (traced n (readTrace tm buf len) .answer) refl
+name-in tm buf len n id s e = go (tracedBy n tm buf len .answer) refl
   where
-    go : (a : Result Located) → traced n (readTrace tm buf len) .answer ≡ a → s .place + s .length ≤ length buf
-    go (accepted located) f = name-ends tm buf len n id (traced n (readTrace tm buf len)) refl f s e
+    go : (a : Result Present) → tracedBy n tm buf len .answer ≡ a → s .place + s .length ≤ length buf
+    go (accepted present) f = name-ends tm buf len n id (tracedBy n tm buf len) refl f s e
     go (refused k p) f =
-        let z : substitute ≡ inMessage s = name-lost tm buf len n id (traced n (readTrace tm buf len)) refl k p f ∙ e in
+        let z : substitute ≡ inMessage s = name-lost tm buf len n id (tracedBy n tm buf len) refl k p f ∙ e in
         absurd (clash (cc))
 
 -- WHAT IS GIVEN has the bytes of the name

@@ -8,7 +8,9 @@ use lib.ListN.{length, getD, take, drop, List·getD-eq-default}
 use lib.Dec.{ltb}
 use borrow.Author.Tests.{ltb-true, ltb-false}
 use Rattle.meaning.specs.Answer.{Result, accepted, refused}
-use Rattle.meaning.specs.Message.{partOf, parameterCount}
+use Rattle.meaning.specs.Bytes.{Part}
+use Rattle.meaning.specs.Layout.{partIn}
+use Rattle.meaning.specs.Message.{parameterCount, firstPlace}
 use Rattle.meaning.specs.Names.{«MQGACF_ACTIVITY»}
 use Rattle.meaning.specs.Trace.{Terms, Trace, activities, readTrace}
 use Rattle.meaning.specs.Activity.{Span, bytesIn, sizeOf, spanOf, noGroup, nthActivity, activityGroup}
@@ -20,10 +22,11 @@ use Rattle.activities.specs.Spans.{spanIn}
 use Rattle.activities.specs.declared.group.Span.{Span as Handed}
 
 -- THE ACTIVITY GROUP that goes with the trace
-pub activity-traced : (n : ℕ) (r : Result Trace) → record { place = traced n r .activity .place; length = traced n r .activity .length } ≡ spanOf (nthActivity r n)
+pub activity-traced : (n : ℕ) (m : Part) (r : Result Trace)
+    → record { place = traced n m r .activity .place; length = traced n m r .activity .length } ≡ spanOf (nthActivity r n)
 unfolding counted wholeGroup sizeOf
-activity-traced n (accepted t) = refl
-activity-traced n (refused k p) = refl
+activity-traced n m (accepted t) = refl
+activity-traced n m (refused k p) = refl
 
 -- it lies in the message
 span-in : (tm : Terms) (buf : List ℕ) (len : ℕ) (t : Trace) → readTrace tm buf len ≡ accepted t → (n : ℕ) → spanOf (getD (activities (t .rows)) n noGroup) .place + spanOf (getD (activities (t .rows)) n noGroup) .length ≤ length buf
@@ -33,8 +36,9 @@ span-in tm buf len t e n = go (ltb n (length (activities (t .rows)))) refl
     go : (b : Bool) → ltb n (length (activities (t .rows))) ≡ b → spanOf (getD (activities (t .rows)) n noGroup) .place + spanOf (getD (activities (t .rows)) n noGroup) .length ≤ length buf
     go true h =
         let s = sound tm buf len t e in
-        let g = nth-at (partOf buf len) 36 (parameterCount (partOf buf len)) (t .rows) (s .message .structures .tree) «MQGACF_ACTIVITY» n (ltb-true n (length (activities (t .rows))) h) in
-        omega (arith, g .fills, g .ends, s .lies .there)
+        let m : Part = partIn (tm .layout) buf len in
+        let g = nth-at m (firstPlace m) (parameterCount m) (t .rows) (s .message .structures .tree) «MQGACF_ACTIVITY» n (ltb-true n (length (activities (t .rows))) h) in
+        omega (arith, g .fills, g .ends, s .lies .within, s .lies .there)
     go false h = rw (List·getD-eq-default (activities (t .rows)) noGroup (ltb-false n (length (activities (t .rows))) h)) (omega arith)
 
 pub activity-in : (tm : Terms) (buf : List ℕ) (len n : ℕ) → activityGroup tm buf len n .place + activityGroup tm buf len n .length ≤ length buf

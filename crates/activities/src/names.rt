@@ -1,5 +1,6 @@
 // Named strings in an Activity group, without their trailing blanks and zero bytes.
 use crate::group::Span;
+use layout::Layout;
 use trace::Answer;
 use trace::behind;
 use trace::trace_of;
@@ -8,8 +9,9 @@ ghost use mathlib.Core.Path.{_≡_};
 ghost use Prim.Native.Nat.{_+_, _≤_};
 ghost use lib.ListN.{length, take, drop};
 ghost use Rattle.meaning.specs.Walk.{walk};
-ghost use Rattle.meaning.specs.Message.{partOf};
+ghost use Rattle.meaning.specs.Bytes.{partOf};
 ghost use Rattle.meaning.specs.Activity.{isPad, trimmed, nameOf};
+ghost use Rattle.layout.specs.Layouts.{layoutOf};
 ghost use Rattle.attributes.specs.Terms.{termsOf};
 ghost use Rattle.trace.specs.Passing.{Known};
 ghost use Rattle.activities.specs.Naming.{namedIn, stringIn, Gives};
@@ -51,9 +53,9 @@ fn kept(msg: &[u8], place: usize, size: usize) -> usize
 
 // The data of the first string with the identifier among a group's direct members, `count` of them, the first at `place`. The
 // members were surveyed, so none is checked again.
-fn first_string(msg: &[u8], len: usize, place: usize, count: u32, id: u32) -> Named
-    requires { ⌜ Known (now msg) len (walk (partOf (now msg) len) place 2 count) ⌝ }
-    ensures { λ r. ⌜ namedIn r ≡ stringIn (partOf (now (msg .entry)) len) id (walk (partOf (now (msg .entry)) len) place 2 count) ⌝ }
+fn first_string(msg: &[u8], end: usize, place: usize, count: u32, id: u32) -> Named
+    requires { ⌜ Known (now msg) end (walk (partOf (now msg) end) place 2 count) ⌝ }
+    ensures { λ r. ⌜ namedIn r ≡ stringIn (partOf (now (msg .entry)) end) id (walk (partOf (now (msg .entry)) end) place 2 count) ⌝ }
 {
     let mut at = place;
     let mut left = count;
@@ -64,7 +66,7 @@ fn first_string(msg: &[u8], len: usize, place: usize, count: u32, id: u32) -> Na
                 length: number_at(msg, at + 16) as usize,
             });
         }
-        at = behind(msg, len, at, 2);
+        at = behind(msg, end, at, 2);
         left = left - 1;
     }
     Named::Substitute
@@ -72,16 +74,24 @@ fn first_string(msg: &[u8], len: usize, place: usize, count: u32, id: u32) -> Na
 
 // Where the first direct string with the identifier in the n-th Activity group is, without its trailing blanks and zero bytes;
 // the substitute, if message or sheet is refused as in Read or there is no such string.
-pub fn name_span(msg: &[u8], len: usize, sheet: [u32; 8], n: usize, id: u32) -> Named
-    ensures { λ r. ⌜ namedIn r ≡ nameOf (termsOf sheet) (now (msg .entry)) len n id ⌝ }
+pub fn name_span(
+    msg: &[u8],
+    len: usize,
+    layout: Layout,
+    sheet: [u32; 8],
+    n: usize,
+    id: u32,
+) -> Named
+    ensures { λ r. ⌜ namedIn r ≡ nameOf (termsOf (layoutOf layout) sheet) (now (msg .entry)) len n id ⌝ }
 {
-    let t = trace_of(msg, len, sheet, n);
+    let t = trace_of(msg, len, layout, sheet, n);
     let answer = t.answer;
     match answer {
         Answer::Refused(_) => Named::Substitute,
         Answer::Found => {
             let group = t.activity;
-            let found = first_string(msg, len, group.inside, group.members, id);
+            let part = t.part;
+            let found = first_string(msg, part.end, group.inside, group.members, id);
             match found {
                 Named::Substitute => Named::Substitute,
                 Named::InMessage(span) => Named::InMessage(Span {
@@ -97,14 +107,15 @@ pub fn name_span(msg: &[u8], len: usize, sheet: [u32; 8], n: usize, id: u32) -> 
 pub fn named_string<'a>(
     msg: &'a [u8],
     len: usize,
+    layout: Layout,
     sheet: [u32; 8],
     n: usize,
     id: u32,
     substitute: &'a [u8],
 ) -> &'a [u8]
-    ensures { λ r. ⌜ Gives (msg .entry) (substitute .entry) (nameOf (termsOf sheet) (now (msg .entry)) len n id) r ⌝ }
+    ensures { λ r. ⌜ Gives (msg .entry) (substitute .entry) (nameOf (termsOf (layoutOf layout) sheet) (now (msg .entry)) len n id) r ⌝ }
 {
-    let name = name_span(msg, len, sheet, n, id);
+    let name = name_span(msg, len, layout, sheet, n, id);
     match name {
         Named::Substitute => substitute,
         Named::InMessage(span) => {

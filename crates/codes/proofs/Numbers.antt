@@ -7,7 +7,7 @@ use native.Mathlib.Omega.{arith}
 use Rattle.meaning.specs.Event.{Level, low, medium, high, rank}
 use Rattle.refusals.specs.Refusals.{numberOf, placeOf, owed}
 use Rattle.refusals.specs.declared.Refusal.{Refusal}
-use Rattle.refusals.specs.declared.Refusal.the-variants.{BadLength, BadHeader, BadStructure, TooDeep, LeftOver, NoTraceHeader, NoTraceRoute, BadAttribute, BadGroup, MaxActivities, CounterFull, NoRoom, ReportTooShort, UnsupportedDelivery, UnsupportedForwarding, NotForwarded, BadSheet}
+use Rattle.refusals.specs.declared.Refusal.the-variants.{BadLength, BadHeader, BadStructure, TooDeep, LeftOver, NoTraceHeader, NoTraceRoute, BadAttribute, BadGroup, MaxActivities, CounterFull, NoRoom, ReportTooShort, UnsupportedDelivery, UnsupportedForwarding, NotForwarded, BadSheet, BadEmbeddedHeader}
 use Rattle.attributes.specs.Decisions.{decisionOf, judgedOf}
 use Rattle.attributes.specs.declared.decisions.Decision.{Decision as Decided}
 use Rattle.attributes.specs.declared.decisions.Decision.the-variants.{Forward, PutLocally, Withhold}
@@ -39,6 +39,7 @@ number-below UnsupportedDelivery = omega arith
 number-below UnsupportedForwarding = omega arith
 number-below NotForwarded = omega arith
 number-below BadSheet = omega arith
+number-below BadEmbeddedHeader = omega arith
 
 -- decisions are small
 pub decision-small : (d : Decided) → decisionNumber (decisionOf d) ≤ 3

@@ -5,11 +5,13 @@ mod feedback;
 mod options;
 mod results;
 
+pub use code::given;
 pub use code::refused;
 pub use events::level_of;
 pub use events::told;
 pub use feedback::feedback_of;
 pub use options::Options;
+pub use options::layout_of;
 pub use options::options_of;
 pub use results::checked;
 pub use results::composed;

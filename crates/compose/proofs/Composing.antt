@@ -1,19 +1,14 @@
--- The numbers of a composed message, one structure after the other.
+-- The numbers of a composed part, one structure after the other.
 use mathlib.Core.Path.{_≡_, refl, ap}
-use mathlib.Core.Bool.{true, false}
 use mathlib.Core.List.{List, [], _∷_, _++_}
 use Prim.Native.Nat.{ℕ, zero, suc, _+_, _*_, _≤_, _<_}
 use native.Mathlib.Nat.{not-suc-le-zero, le-of-suc-le-suc}
 use native.Mathlib.Numerals.{add-one}
 use native.Mathlib.Omega.{arith}
 use lib.ListN.{length, getD, take}
-use borrow.Author.Tests.{eq-eqb, le-leb, lt-leb}
 use lib.Seq.{take-all}
 use Rattle.meaning.specs.Bytes.{bytes4, words, splice}
-use Rattle.meaning.specs.Names.{badSheet, badAttribute, noRoom}
-use Rattle.meaning.specs.Answer.{Result, accepted, refused}
-use Rattle.meaning.specs.Trace.{Terms, sheetOk, inRange}
-use Rattle.meaning.specs.Compose.{headerFields, traceHeaderFields, groupFields, integers, composedFields, composed, valuesOk, composeAnswer, Composed, compose}
+use Rattle.meaning.specs.Compose.{headerFields, traceHeaderFields, groupFields, integers, composedFields, composed}
 use Rattle.meaning.proofs.Splices.{splice-words, splice-number, words-one}
 
 -- four numbers in a row
@@ -63,30 +58,3 @@ module _ (s sheet v : List ℕ) (eight : length sheet ≡ 8) (values : length v 
         take-all 8 sheet (omega arith),
         take-all 8 v (omega arith),
       ) refl
-
--- what Compose comes to, by the tests that it makes
-abbrev pub composeEnds : Result ℕ → List ℕ → Composed
-composeEnds r buf = record { answer = r; buffer = buf }
-
-module _ (tm : Terms) (v buf : List ℕ) where
-  pub bad-sheet : sheetOk (tm .sheet) ≡ false → composeEnds (refused badSheet 0) buf ≡ compose tm v buf
-  unfolding compose composeAnswer
-  bad-sheet e = rw e refl
-
-  module _ (ok : sheetOk (tm .sheet) ≡ true) (eight : length v ≡ 8) where
-    values-ok : valuesOk v ≡ inRange v
-    unfolding valuesOk
-    values-ok = rw (eq-eqb (length v) 8 eight) refl
-
-    pub bad-values : inRange v ≡ false → composeEnds (refused badAttribute 0) buf ≡ compose tm v buf
-    unfolding compose composeAnswer
-    bad-values e = rw (ok, values-ok, e) refl
-
-    module _ (range : inRange v ≡ true) where
-      pub no-room : length buf < 180 → composeEnds (refused noRoom 0) buf ≡ compose tm v buf
-      unfolding compose composeAnswer
-      no-room h = rw (ok, values-ok, range, lt-leb 180 (length buf) h) refl
-
-      pub written : 180 ≤ length buf → composeEnds (accepted 180) (splice buf 0 (composed (tm .sheet) v)) ≡ compose tm v buf
-      unfolding compose composeAnswer
-      written h = rw (ok, values-ok, range, le-leb 180 (length buf) h) refl

@@ -1,1 +1,2 @@
 mod Composing
+mod Outcomes

@@ -4,6 +4,11 @@ use attributes::in_range;
 use attributes::sheet_ok;
 use header::Kind;
 use header::put_header;
+use layout::Embedding;
+use layout::Laid;
+use layout::Layout;
+use layout::laid_out_length;
+use layout::put_around;
 use refusals::Refusal;
 use structure::MQCFT_GROUP;
 use structure::MQCFT_INTEGER;
@@ -16,8 +21,9 @@ ghost use Rattle.meaning.specs.Bytes.{words, splice};
 ghost use Rattle.meaning.specs.Compose.{composed as composedOf, compose as composeOf};
 ghost use Rattle.compose.specs.Composes.{composedInto};
 ghost use Rattle.attributes.specs.Terms.{termsOf};
+ghost use Rattle.layout.specs.Layouts.{layoutOf, embeddingIn};
 
-// The length of a composed message.
+// The length of a composed part.
 const COMPOSED: usize = 180;
 
 // The length written, or 17, 8 or 12.
@@ -51,9 +57,17 @@ fn put_trace(buf: &mut [u8], sheet: [u32; 8], values: [u32; 8])
     }
 }
 
-// COMPOSE: writes the message to the start of the buffer. A refusal changes nothing.
-pub fn compose(sheet: [u32; 8], values: [u32; 8], buf: &mut [u8]) -> Composed
-    ensures { λ r. ⌜ composedInto r (now (buf .exit)) ≡ composeOf (termsOf sheet) values (now (buf .entry)) ⌝ }
+// COMPOSE: writes the message to the start of the buffer: embedded, the header and the user data around the part. A refusal
+// changes nothing.
+pub fn compose(
+    layout: Layout,
+    sheet: [u32; 8],
+    values: [u32; 8],
+    embedding: Embedding,
+    user: &[u8],
+    buf: &mut [u8],
+) -> Composed
+    ensures { λ r. ⌜ composedInto r (now (buf .exit)) ≡ composeOf (termsOf (layoutOf layout) sheet) values (embeddingIn embedding) (now (user .entry)) (now (buf .entry)) ⌝ }
 {
     if !sheet_ok(sheet) {
         return Composed::Refused(Refusal::BadSheet);
@@ -61,9 +75,13 @@ pub fn compose(sheet: [u32; 8], values: [u32; 8], buf: &mut [u8]) -> Composed
     if !in_range(values) {
         return Composed::Refused(Refusal::BadAttribute);
     }
-    if buf.len() < COMPOSED {
-        return Composed::Refused(Refusal::NoRoom);
+    let laid = laid_out_length(layout, COMPOSED, user.len(), buf.len());
+    match laid {
+        Laid::Refused(r) => Composed::Refused(r),
+        Laid::Length(n) => {
+            let start = put_around(buf, layout, embedding, COMPOSED, user);
+            put_trace(&mut buf[start..], sheet, values);
+            Composed::Written(n)
+        }
     }
-    put_trace(buf, sheet, values);
-    Composed::Written(COMPOSED)
 }

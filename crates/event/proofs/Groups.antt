@@ -7,9 +7,8 @@ use lib.ListN.{length}
 use lib.Dec.{eqb}
 use lib.Seq.{take-length}
 use borrow.Author.Tests.{le-leb, lt-leb, eq-eqb, ne-eqb}
-use Rattle.meaning.specs.Bytes.{Part, number, whole}
+use Rattle.meaning.specs.Bytes.{Part, number, whole, partOf}
 use Rattle.meaning.specs.Answer.{Result, accepted, refused}
-use Rattle.meaning.specs.Message.{partOf}
 use Rattle.meaning.specs.Walk.{Walked, walk}
 use Rattle.meaning.specs.Event.{endsAt, groupOk}
 use Rattle.walk.specs.Passings.{Passage, passage}

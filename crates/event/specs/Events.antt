@@ -4,7 +4,9 @@ use mathlib.Core.Path.{_≡_}
 use mathlib.Core.List.{List, []}
 use lib.ListN.{length}
 use Rattle.meaning.specs.Event.{discontinuity, planOf, State, Outcome, applied, leaving, decide, event}
-use Rattle.verdict.specs.Plans.{answerOf}
+use Rattle.layout.specs.Layouts.{layoutOf}
+use Rattle.verdict.specs.Plans.{settingsOf, answerOf}
+use Rattle.verdict.specs.declared.plan.Settings.{Settings}
 use Rattle.verdict.specs.declared.answer.Answer.{Answer}
 use Rattle.verdict.specs.declared.answer.Answer.the-variants as answer
 
@@ -22,12 +24,13 @@ abbrev pub outcome : Answer → ℕ → List ℕ → List ℕ → Outcome
 outcome r len buf report = record { answer = answerOf r; next = record { buf = buf; len = lengthAfter len r; report = report } }
 
 -- a discontinuity, whatever the report buffer: it stays as it is
-abbrev pub Discontinues : List ℕ → List ℕ → ℕ → Answer → List ℕ → Type 0
-Discontinues sheet buf len r buf′ =
-    (report : List ℕ) → outcome r len buf′ report ≡ event (record { sheet = sheet }) (state buf len report) discontinuity
+abbrev pub Discontinues : List ℕ → Settings → List ℕ → ℕ → Answer → List ℕ → Type 0
+Discontinues sheet s buf len r buf′ =
+    (report : List ℕ) → outcome r len buf′ report ≡ event sheet (state buf len report) (discontinuity (settingsOf s))
 
 -- the same for a trace that was read
-abbrev pub Counts : List ℕ → ℕ → List ℕ → List ℕ → Answer → List ℕ → Type 0
-Counts buf len places values r buf′ =
+abbrev pub Counts : List ℕ → ℕ → Settings → List ℕ → List ℕ → Answer → List ℕ → Type 0
+Counts buf len s places values r buf′ =
     (report : List ℕ) → outcome r len buf′ report
-    ≡ leaving (state buf len report) (applied (state buf len report) [] places (planOf values discontinuity)) (decide values (planOf values discontinuity) 0 len (length buf) (length report))
+    ≡ leaving (state buf len report) (applied (layoutOf (s .layout)) (state buf len report) [] places (planOf values (discontinuity (settingsOf s))))
+    (decide values (planOf values (discontinuity (settingsOf s))) 0 len (length buf) (length report))

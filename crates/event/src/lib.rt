@@ -19,27 +19,26 @@ use verdict::Settings;
 use verdict::plan_activity;
 ghost use mathlib.Core.Path.{_≡_};
 ghost use Rattle.meaning.specs.Event.{event};
-ghost use Rattle.attributes.specs.Terms.{termsOf};
 ghost use Rattle.verdict.specs.Plans.{activityOf};
 ghost use Rattle.event.specs.Events.{outcome, state, Discontinues};
 
-// A DISCONTINUITY: DiscontinuityCount rises by one.
-pub fn discontinuity(buf: &mut [u8], len: usize, sheet: [u32; 8]) -> Answer
-    ensures { λ r. ⌜ Discontinues sheet (now (buf .entry)) len r (now (buf .exit)) ⌝ }
+// A DISCONTINUITY: DiscontinuityCount rises by one. Of its settings only the layout plays a part.
+pub fn discontinuity(buf: &mut [u8], len: usize, sheet: [u32; 8], settings: Settings) -> Answer
+    ensures { λ r. ⌜ Discontinues sheet settings (now (buf .entry)) len r (now (buf .exit)) ⌝ }
 {
-    let found = trace_of(buf, len, sheet, 0);
+    let found = trace_of(buf, len, settings.layout, sheet, 0);
     let sought = found.answer;
     match sought {
         trace::Answer::Refused(r) => Answer::Refused(r),
         trace::Answer::Found => {
             let places = found.places;
             let values = found.values;
-            count(buf, len, places, values)
+            count(buf, len, settings, places, values)
         }
     }
 }
 
-// AN ACTIVITY with its level, the lent group, whether reports are asked for, and the queue manager's settings. All refusals
+// AN ACTIVITY with its level, the lent group, whether reports are asked for, and its settings. All refusals
 // come before the first byte is written.
 pub fn activity(
     buf: &mut [u8],
@@ -51,9 +50,10 @@ pub fn activity(
     settings: Settings,
     report: &mut [u8],
 ) -> Answer
-    ensures { λ r. ⌜ outcome r len (now (buf .exit)) (now (report .exit)) ≡ event (termsOf sheet) (state (now (buf .entry)) len (now (report .entry))) (activityOf level (now (group .entry)) asked settings) ⌝ }
+    ensures { λ r. ⌜ outcome r len (now (buf .exit)) (now (report .exit)) ≡ event sheet (state (now (buf .entry)) len (now (report .entry))) (activityOf level (now (group .entry)) asked settings) ⌝ }
 {
-    let found = trace_of(buf, len, sheet, 0);
+    let layout = settings.layout;
+    let found = trace_of(buf, len, layout, sheet, 0);
     let sought = found.answer;
     match sought {
         trace::Answer::Refused(r) => Answer::Refused(r),
@@ -61,8 +61,9 @@ pub fn activity(
             if group_ok(group) {
                 let places = found.places;
                 let values = found.values;
+                let part = found.part;
                 let plan = plan_activity(values, level, asked, settings);
-                enter(buf, len, places, values, plan, group, report)
+                enter(buf, len, layout, part, places, values, plan, group, report)
             } else {
                 Answer::Refused(Refusal::BadGroup)
             }

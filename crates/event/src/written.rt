@@ -1,32 +1,49 @@
-// What an accepted event writes: the counter's new value, and behind the message the group.
+// What an accepted event writes: the counter's new value; behind the part the group, with the lengths and the count that tell of
+// it; and the report.
 use header::Kind;
 use header::put_header;
-use pcf::HEADER;
+use layout::HEADER;
+use layout::Layout;
+use layout::Part;
+use layout::lengthen;
 use wire::copy_to;
+use wire::move_back;
 use wire::number_at;
 use wire::put_number;
 ghost use mathlib.Core.Path.{_≡_};
 ghost use lib.ListN.{length};
-ghost use Rattle.meaning.specs.Bytes.{splice, store};
-ghost use Rattle.meaning.specs.Message.{partOf};
-ghost use Rattle.meaning.specs.Event.{grownIf, reportOf, reportedIf};
+ghost use Rattle.meaning.specs.Bytes.{splice};
+ghost use Rattle.meaning.specs.Event.{reportOf, reportedIf};
 ghost use Prim.Native.Nat.{_+_, _≤_};
-ghost use Rattle.event.specs.Written.{Writable, Reportable};
+ghost use Rattle.event.specs.Written.{writtenIn, Writable, Reportable};
 
-// The place of the header's ParameterCount.
+// Where ParameterCount stands in the part's header.
 const COUNT: usize = 32;
 
-// Writes `value` one higher at `at`, where the counter's Value stands. If the group is to be appended, the header's
-// ParameterCount rises by one and the group is written from the message's end on.
-pub fn write_message(buf: &mut [u8], len: usize, at: usize, value: u32, appends: bool, group: &[u8])
-    requires { ⌜ Writable (now buf) len at value appends (now group) ⌝ }
-    ensures { λ _. ⌜ now (buf .exit) ≡ grownIf appends (partOf (now (buf .entry)) len) (store (partOf (now (buf .entry)) len) (now (buf .entry)) at (value + 1)) (now (group .entry)) ⌝ }
+// Writes `value` one higher at `at`, where the counter's Value stands. If the group is to be appended, the part grows: an embedded
+// header's StrucLength rises by the group's length, the PCF header's ParameterCount by one, the user data moves back, and the group
+// is written from the part's old end on.
+pub fn write_message(
+    buf: &mut [u8],
+    len: usize,
+    layout: Layout,
+    part: Part,
+    at: usize,
+    value: u32,
+    appends: bool,
+    group: &[u8],
+)
+    requires { ⌜ Writable (now buf) len layout part at value appends (now group) ⌝ }
+    ensures { λ _. ⌜ now (buf .exit) ≡ writtenIn (now (buf .entry)) len layout part at value appends (now (group .entry)) ⌝ }
 {
-    let count = number_at(buf, COUNT);
+    let count = number_at(buf, part.start + COUNT);
     put_number(buf, at, value + 1);
     if appends {
-        put_number(buf, COUNT, count + 1);
-        copy_to(buf, len, group);
+        let end = part.end;
+        lengthen(buf, layout, end, group.len());
+        put_number(buf, part.start + COUNT, count + 1);
+        move_back(buf, end, len - end, group.len());
+        copy_to(buf, end, group);
     }
 }
 

@@ -7,9 +7,10 @@ use native.Mathlib.Omega.{arith}
 use lib.Dec.{leb, eqb}
 use borrow.Author.Tests.{leb-true}
 use Rattle.meaning.specs.Names.{mostBytes, mostCount}
+use Rattle.meaning.specs.Layout.{roomFor}
 use Rattle.meaning.specs.Answer.{Result, accepted, refused, when, unless}
-use Rattle.meaning.specs.Trace.{Trace, value, readTrace}
-use Rattle.meaning.specs.Event.{Level as Rank, Event, activity, Answer, done, denied, Plan, State, Outcome, overLimit, reportLength, decide, soundEvent, performed, decided, leaving, onRead, onTrace, event}
+use Rattle.meaning.specs.Trace.{Terms, Trace, value, readTrace}
+use Rattle.meaning.specs.Event.{Level as Rank, Event, activity, Answer, done, denied, Plan, State, Outcome, overLimit, reportLength, decide, soundEvent, performed, decided, leaving, onRead, onTrace, event, Settings as Manager, layoutNamed, discontinuity, eventOn}
 use Rattle.meaning.proofs.Tests.{clash}
 use Rattle.meaning.proofs.Sound.{sound}
 use Rattle.meaning.proofs.Outcomes.{read-refused}
@@ -22,7 +23,7 @@ use Rattle.attributes.specs.Terms.{termsOf}
 use Rattle.codes.specs.Events.{levelIn, Brief, Tells}
 use Rattle.codes.specs.Options.{optionsIn}
 use Rattle.codes.specs.declared.options.Options.{Options}
-use Rattle.gwirandol.specs.Events.{activityIn, Applies}
+use Rattle.gwirandol.specs.Events.{settingsIn, activityIn, Applies}
 
 -- THE ANSWER is brief: a message that is appended to stays below the most bytes
 when-brief : (b : Bool) (x y : Answer) → Brief x → (b ≡ false → Brief y) → Brief (when b x y)
@@ -43,7 +44,7 @@ unfolding decide
 decide-brief v p size len room reportRoom h =
     when-brief (overLimit v) _ _ (omega arith) (λ _.
     when-brief (eqb (value v (p .counter)) mostCount) _ _ (omega arith) (λ _.
-    when-brief (p .appends && not (leb (len + size) room && leb (len + size) mostBytes)) _ _ (omega arith) (λ e.
+    when-brief (p .appends && not (roomFor (len + size) room)) _ _ (omega arith) (λ e.
     when-brief (p .reports && not (leb (reportLength size) reportRoom)) _ _ (omega arith) (λ _.
     done-brief (p .appends) (leb (len + size) room) size len h e))))
 
@@ -51,33 +52,40 @@ left-brief : (st st′ : State) (a : Answer) → Brief a → Brief (leaving st s
 left-brief st st′ (done d) f = f
 left-brief st st′ (denied n p o) f = f
 
-pub event-brief : (sheet : List ℕ) (st : State) (e : Event) → Brief (event (termsOf sheet) st e .answer)
-unfolding event onTrace
-event-brief sheet st e = by (readTrace (termsOf sheet) (st .buf) (st .len)) refl
+pub event-brief : (sheet : List ℕ) (st : State) (e : Event) → Brief (event sheet st e .answer)
+unfolding event eventOn onTrace
+event-brief sheet st e = by (readTrace tm (st .buf) (st .len)) refl
   where
+    tm : Terms
+    tm = termsOf (layoutNamed e) sheet
+
     go : (t : Trace) → st .len ≤ 65536 → (b : Bool)
-        → Brief (unless b (record { answer = denied 9 0 false; next = st }) (leaving st (performed st e t) (decided st e (t .values))) .answer)
-    go t h true = left-brief st (performed st e t) (decided st e (t .values)) (decide-brief _ _ _ _ _ _ h)
+        → Brief (unless b (record { answer = denied 9 0 false; next = st }) (leaving st (performed (layoutNamed e) st e t) (decided st e (t .values))) .answer)
+    go t h true = left-brief st (performed (layoutNamed e) st e t) (decided st e (t .values)) (decide-brief _ _ _ _ _ _ h)
     go t h false = omega arith
 
-    by : (x : Result Trace) → readTrace (termsOf sheet) (st .buf) (st .len) ≡ x → Brief (onRead st e x .answer)
-    by (accepted t) h = go t (sound (termsOf sheet) (st .buf) (st .len) t h .lies .most) (soundEvent e)
-    by (refused n p) h = read-refused (termsOf sheet) (st .buf) (st .len) n p h .place
+    by : (x : Result Trace) → readTrace tm (st .buf) (st .len) ≡ x → Brief (onRead (layoutNamed e) st e x .answer)
+    by (accepted t) h = go t (sound tm (st .buf) (st .len) t h .lies .most) (soundEvent e)
+    by (refused n p) h = read-refused tm (st .buf) (st .len) n p h .place
 
 -- an activity by its options and its level's number
-abbrev pub settingsIn : Options → Settings
-settingsIn p = record { recording = p .recording; messaging = p .messaging }
-
-pub in-numbers : (o : Outcome) (sheet : List ℕ) (st : State) (p : Options) (l : Level) (g : List ℕ) (options n : ℕ) → p ≡ optionsIn options → levelOf l ≡ levelIn n
-    → o ≡ event (termsOf sheet) st (activityOf l g (p .asked) (settingsIn p)) → o ≡ event (termsOf sheet) st (activityIn options n g)
-in-numbers o sheet st p l g options n e f h =
+pub in-numbers : (o : Outcome) (sheet : List ℕ) (st : State) (p : Options) (s : Settings) (l : Level) (g : List ℕ) (options n : ℕ)
+    → p ≡ optionsIn options → settingsOf s ≡ settingsIn options → levelOf l ≡ levelIn n
+    → o ≡ event sheet st (activityOf l g (p .asked) s) → o ≡ event sheet st (activityIn options n g)
+in-numbers o sheet st p s l g options n e k f h =
     h
-    ∙ ap (λ (k : Rank). event (termsOf sheet) st (activity (record { level = k; group = g; reportsAsked = p .asked }) (settingsOf (settingsIn p)))) f
-    ∙ ap (λ (q : Options). event (termsOf sheet) st (activity (record { level = levelIn n; group = g; reportsAsked = q .asked }) (settingsOf (settingsIn q)))) e
+    ∙ ap (λ (r : Rank). event sheet st (activity (record { level = r; group = g; reportsAsked = p .asked }) (settingsOf s))) f
+    ∙ ap (λ (q : Options). event sheet st (activity (record { level = levelIn n; group = g; reportsAsked = q .asked }) (settingsOf s))) e
+    ∙ ap (λ (x : Manager). event sheet st (activity (record { level = levelIn n; group = g; reportsAsked = optionsIn options .asked }) x)) k
+
+-- a discontinuity by its options
+pub in-options : (o : Outcome) (sheet : List ℕ) (st : State) (s : Settings) (options : ℕ) → settingsOf s ≡ settingsIn options
+    → o ≡ event sheet st (discontinuity (settingsOf s)) → o ≡ event sheet st (discontinuity (settingsIn options))
+in-options o sheet st s options k h = h ∙ ap (λ (x : Manager). event sheet st (discontinuity x)) k
 
 -- WHAT IS TOLD of an event that answers x
-module _ (sheet : List ℕ) (st : State) (e : Event) (x : Said) (len : ℕ) (buf report : List ℕ) (h : outcome x len buf report ≡ event (termsOf sheet) st e) where
-  answered : answerOf x ≡ event (termsOf sheet) st e .answer
+module _ (sheet : List ℕ) (st : State) (e : Event) (x : Said) (len : ℕ) (buf report : List ℕ) (h : outcome x len buf report ≡ event sheet st e) where
+  answered : answerOf x ≡ event sheet st e .answer
   answered = ap (λ (o : Outcome). o .answer) h
 
   pub brief : Brief (answerOf x)

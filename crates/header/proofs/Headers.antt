@@ -37,19 +37,19 @@ write-next s fs i h room =
     rw (add-one i, take-suc fs i 0 h) (splice-number s 0 (take i fs) (i * 4) (getD fs i 0) (omega (arith, length-take-le i fs (omega arith))) (omega arith))
 
 -- one number more is compared
-pub starts-none : (s fs : List ℕ) (i : ℕ) → length fs ≤ i → startsWith s (i * 4) (drop i fs) ≡ true
+pub starts-none : (s fs : List ℕ) (p i : ℕ) → length fs ≤ i → startsWith s p (drop i fs) ≡ true
 unfolding startsWith
-starts-none s fs i h = ap (startsWith s (i * 4)) (rest-none fs i h)
+starts-none s fs p i h = ap (startsWith s p) (rest-none fs i h)
 
-module _ (s fs : List ℕ) (i : ℕ) (h : i < length fs) where
-  starts-next : startsWith s (i * 4) (drop i fs) ≡ (eqb (number s (i * 4)) (getD fs i 0) && startsWith s ((i + 1) * 4) (drop (i + 1) fs))
+module _ (s fs : List ℕ) (at i : ℕ) (h : i < length fs) where
+  starts-next : startsWith s (at + i * 4) (drop i fs) ≡ (eqb (number s (at + i * 4)) (getD fs i 0) && startsWith s (at + (i + 1) * 4) (drop (i + 1) fs))
   unfolding startsWith
   starts-next =
-      let e : i * 4 + 4 ≡ (i + 1) * 4 = omega arith in
-      ap (startsWith s (i * 4)) (rest-next fs i h) ∙ ap (λ (p : ℕ). eqb (number s (i * 4)) (getD fs i 0) && startsWith s p (drop (i + 1) fs)) e
+      let e : at + i * 4 + 4 ≡ at + (i + 1) * 4 = omega arith in
+      ap (startsWith s (at + i * 4)) (rest-next fs i h) ∙ ap (λ (p : ℕ). eqb (number s (at + i * 4)) (getD fs i 0) && startsWith s p (drop (i + 1) fs)) e
 
-  pub starts-equal : number s (i * 4) ≡ getD fs i 0 → startsWith s (i * 4) (drop i fs) ≡ startsWith s ((i + 1) * 4) (drop (i + 1) fs)
-  starts-equal e = starts-next ∙ rw (eq-eqb (number s (i * 4)) (getD fs i 0) e) refl
+  pub starts-equal : number s (at + i * 4) ≡ getD fs i 0 → startsWith s (at + i * 4) (drop i fs) ≡ startsWith s (at + (i + 1) * 4) (drop (i + 1) fs)
+  starts-equal e = starts-next ∙ rw (eq-eqb (number s (at + i * 4)) (getD fs i 0) e) refl
 
-  pub starts-unequal : (number s (i * 4) ≡ getD fs i 0 → ⊥) → startsWith s (i * 4) (drop i fs) ≡ false
-  starts-unequal n = starts-next ∙ rw (ne-eqb (number s (i * 4)) (getD fs i 0) n) refl
+  pub starts-unequal : (number s (at + i * 4) ≡ getD fs i 0 → ⊥) → startsWith s (at + i * 4) (drop i fs) ≡ false
+  starts-unequal n = starts-next ∙ rw (ne-eqb (number s (at + i * 4)) (getD fs i 0) n) refl

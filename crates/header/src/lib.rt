@@ -2,7 +2,7 @@
 use wire::number_at;
 use wire::put_number;
 ghost use mathlib.Core.Path.{_≡_};
-ghost use Prim.Native.Nat.{_≤_, _<_};
+ghost use Prim.Native.Nat.{_+_, _≤_, _<_};
 ghost use lib.ListN.{length, getD, take};
 ghost use Rattle.meaning.specs.Bytes.{words, splice};
 ghost use Rattle.header.specs.Headers.{fieldsOf, startsWith};
@@ -42,14 +42,14 @@ pub fn put_header(buf: &mut [u8], kind: Kind)
     }
 }
 
-// The message starts with the first eight fields of the header; the last one, ParameterCount, may be any.
-pub fn has_header(msg: &[u8], kind: Kind) -> bool
-    requires { ⌜ 36 ≤ length (now msg) ⌝ }
-    ensures { λ r. ⌜ r ≡ startsWith (now (msg .entry)) 0 (take 8 (fieldsOf kind)) ⌝ }
+// The bytes from `at` on are the first eight fields of the header; the last one, ParameterCount, may be any.
+pub fn has_header(msg: &[u8], at: usize, kind: Kind) -> bool
+    requires { ⌜ at + 36 ≤ length (now msg) ⌝ }
+    ensures { λ r. ⌜ r ≡ startsWith (now (msg .entry)) at (take 8 (fieldsOf kind)) ⌝ }
 {
     let mut i = 0;
     while i < 8 {
-        if number_at(msg, i * 4) != field(kind, i) {
+        if number_at(msg, at + i * 4) != field(kind, i) {
             return false;
         }
         i += 1;

@@ -6,12 +6,13 @@ use native.Mathlib.Omega.{arith}
 use lib.ListN.{length, length-append}
 use Rattle.meaning.specs.Answer.{accepted, refused}
 use Rattle.meaning.specs.Trace.{Terms, Trace, activities, readTrace}
+use Rattle.meaning.specs.Layout.{partIn}
 use Rattle.meaning.specs.Listing.{newline, endLine, refusalLine}
 use Rattle.meaning.proofs.Decimals.{column-ten}
 use Rattle.meaning.proofs.Outcomes.{read-refused}
 use Rattle.text.specs.Wrote.{Room, Wrote}
 use Rattle.text.proofs.Laws.{then}
-use Rattle.trace.specs.Locations.{located, Readout, traced}
+use Rattle.trace.specs.Locations.{present, lying, Readout, tracedBy}
 use Rattle.trace.proofs.Locating.{traced-refused, traced-found}
 use Rattle.hops.specs.Hops.{hopLines, hopsIn, hopsText}
 use Rattle.text.specs.Prints.{Prints}
@@ -23,11 +24,11 @@ end-most : (n : ℕ) → length (endLine n) ≤ 15
 unfolding endLine
 end-most n = rw length-append (omega (arith, column-ten n newline))
 
-module _ (tm : Terms) (msg : List ℕ) (id : ℕ) (before : List ℕ) (o : Readout) (h : o ≡ traced 0 (readTrace tm msg (length msg))) where
+module _ (tm : Terms) (msg : List ℕ) (id : ℕ) (before : List ℕ) (o : Readout) (h : o ≡ tracedBy 0 tm msg (length msg)) where
   -- a message or a sheet that is refused
   module _ (k p : ℕ) (f : o .answer ≡ refused k p) where
     lost : readTrace tm msg (length msg) ≡ refused k p
-    lost = traced-refused 0 (readTrace tm msg (length msg)) o k p h f
+    lost = traced-refused 0 (partIn (tm .layout) msg (length msg)) (readTrace tm msg (length msg)) o k p h f
 
     pub lost-place : p < 4294967296
     lost-place = omega (arith, read-refused tm msg (length msg) k p lost .place)
@@ -37,12 +38,14 @@ module _ (tm : Terms) (msg : List ℕ) (id : ℕ) (before : List ℕ) (o : Reado
     lost-text after r w = prints (wrote-as (sym (ap (hopsIn tm msg id) lost)) w)
 
   -- a sound trace
-  module _ (f : o .answer ≡ accepted located) (room : 131072 ≤ length before) where
-    found : (t : Trace) × (readTrace tm msg (length msg) ≡ accepted t)
-    found = let g = traced-found 0 (readTrace tm msg (length msg)) o h f in (record { rows = g .0; places = o .places; values = o .values }, g .1)
+  module _ (f : o .answer ≡ accepted present) (room : 131072 ≤ length before) where
+    found : (t : Trace) × (readTrace tm msg (length msg) ≡ accepted t) × (o .part ≡ lying (partIn (tm .layout) msg (length msg)))
+    found =
+        let g = traced-found 0 (partIn (tm .layout) msg (length msg)) (readTrace tm msg (length msg)) o h f in
+        (record { rows = g .0; places = o .places; values = o .values }, g .1, g .2)
 
-    pub lines-due : LinesDue tm msg before
-    lines-due = record { trace = found .0; sound = found .1; room = room }
+    pub lines-due : LinesDue tm msg (o .part) before
+    lines-due = record { trace = found .0; sound = found .1; lies = found .2; room = room }
 
     module _ (middle : List ℕ) (g : Groups) (d : LinesDone tm msg id before middle g) where
       both : Room before 0 (hopLines tm msg id (g .count) ++ endLine (g .count))

@@ -9,7 +9,6 @@ use Rattle.meaning.specs.Bytes.{Part, num}
 use Rattle.meaning.specs.Names.{«MQCFT_STRING»}
 use Rattle.meaning.specs.Answer.{accepted}
 use Rattle.meaning.specs.Structure.{Row, structureAt}
-use Rattle.meaning.specs.Message.{partOf}
 use Rattle.meaning.specs.Trace.{directIn, named}
 use Rattle.meaning.specs.Activity.{Span, bytesIn, sizeOf, strings, stringAt, firstName, trimmed, nameBytes}
 use Rattle.meaning.specs.Listing.{blank}
@@ -50,19 +49,19 @@ part-most : (buf : List ℕ) (s : Span) → length (bytesIn buf s) ≤ s .length
 part-most buf s = rw (length-take (s .length) (drop (s .place) buf)) (omega arith)
 
 -- A NAME, of the rows inside a group, is no longer than they are; what stands for it has one byte
-name-most : (buf : List ℕ) (len most : ℕ) (rows : List Row) → Every (λ r. num (partOf buf len) (r .place + 16) ≤ most) rows
-    → length (nameBytes buf noName (firstName buf len rows)) ≤ 1 + most
-name-most buf len most [] h = omega arith
-name-most buf len most (r ∷ rs) h =
-    let s : Span = stringAt (partOf buf len) (r .place) in
+name-most : (m : Part) (buf : List ℕ) (most : ℕ) (rows : List Row) → Every (λ r. num m (r .place + 16) ≤ most) rows
+    → length (nameBytes buf noName (firstName m buf rows)) ≤ 1 + most
+name-most m buf most [] h = omega arith
+name-most m buf most (r ∷ rs) h =
+    let s : Span = stringAt m (r .place) in
     omega (arith, h r (here refl), part-most buf s, trim-le (bytesIn buf s), part-most buf (record { place = s .place; length = length (trimmed (bytesIn buf s)) }))
 
-pub name-short : (buf : List ℕ) (len id : ℕ) {p d n : ℕ} (rows : List Row) {q : ℕ} → Walks (partOf buf len) p d n rows q
-    → length (nameBytes buf noName (firstName buf len (named id (strings (directIn rows))))) ≤ 1 + sizeOf rows
-name-short buf len id rows w =
-    let P : Row → Type 0 = λ r. Fits (partOf buf len) r × (r .size ≤ sizeOf rows) in
+pub name-short : (m : Part) (buf : List ℕ) (id : ℕ) {p d n : ℕ} (rows : List Row) {q : ℕ} → Walks m p d n rows q
+    → length (nameBytes buf noName (firstName m buf (named id (strings (directIn rows))))) ≤ 1 + sizeOf rows
+name-short m buf id rows w =
+    let P : Row → Type 0 = λ r. Fits m r × (r .size ≤ sizeOf rows) in
     let all = every-named (λ r. P r × (r .kind ≡ «MQCFT_STRING»)) id (strings (directIn rows)) (every-string P (directIn rows) (every-direct P rows (λ r i. (walks-fit w r i, row-size rows r i)))) in
-    name-most buf len (sizeOf rows) (named id (strings (directIn rows))) (λ r i. let g = all r i in omega (arith, g .0 .0 (g .1), g .0 .1))
+    name-most m buf (sizeOf rows) (named id (strings (directIn rows))) (λ r i. let g = all r i in omega (arith, g .0 .0 (g .1), g .0 .1))
 
 -- A LINE
 pub line-most : (number place size : ℕ) (name : List ℕ) → place < 100000 → size < 100000 → length (hopLine number place size name) ≤ 24 + length name

@@ -6,11 +6,15 @@ use native.Mathlib.Numerals.{add-one}
 use native.Mathlib.Omega.{arith}
 use lib.ListN.{length, length-append}
 use Rattle.meaning.specs.Bytes.{number}
+use Rattle.meaning.specs.Message.{parameterCount}
 use Rattle.meaning.specs.Trace.{Terms}
 use Rattle.meaning.proofs.Splices.{splice-none}
+use Rattle.meaning.proofs.Parts.{num-part}
+use Rattle.meaning.proofs.Layouts.{Sized}
 use Rattle.meaning.proofs.Sound.{sound}
 use Rattle.text.specs.Wrote.{Room, Wrote}
 use Rattle.text.proofs.Laws.{then}
+use Rattle.layout.specs.declared.part.Part.{Part as PartIn}
 use Rattle.reader.specs.Reading.{nthTop}
 use Rattle.hops.specs.Hops.{hopOf, hopLines}
 use Rattle.hops.specs.Groups.{spotIn, LineReady, Added, LinesDue, groupsOf, LinesDone}
@@ -18,7 +22,7 @@ use Rattle.hops.specs.declared.groups.Spot.{Spot}
 use Rattle.hops.specs.declared.groups.Spot.the-variants.{Activity, Other}
 use Rattle.hops.specs.declared.groups.Groups.{Groups}
 use Rattle.text.proofs.Printed.{wrote-as, wrote-length}
-use Rattle.hops.proofs.Turns.{Upto, Here, at-start, text-most, at-end, is-other, is-activity}
+use Rattle.hops.proofs.Turns.{traceIn, Upto, Here, at-start, text-most, at-end, is-other, is-activity}
 
 pub record Written (tm : Terms) (msg : List ℕ) (id : ℕ) (before after : List ℕ) (g : Groups) (k : ℕ) : Type 0 where
   pub upto : Upto tm msg k (g .count) (g .text)
@@ -34,16 +38,27 @@ unfolding hopLines
 lines-more tm msg id n = sym (ap (hopLines tm msg id) (add-one n))
 
 module _ (tm : Terms) (msg : List ℕ) (id : ℕ) (before : List ℕ) where
-  pub header-there : LinesDue tm msg before → 36 ≤ length msg
-  header-there d = sound tm msg (length msg) (d .trace) (d .sound) .lies .least
+  module _ (part : PartIn) (d : LinesDue tm msg part before) where
+    starts : part .start ≡ traceIn tm msg .start
+    starts = ap (λ (x : PartIn). x .start) (d .lies)
 
-  pub begun : LinesDue tm msg before → Written tm msg id before before (record { count = 0; text = 0 }) 0
-  begun d =
-      record {
-        upto = at-start tm msg (d .trace) (d .sound);
-        wrote = rw (lines-none tm msg id) (record { bytes = sym (splice-none before 0); place = refl });
-        room = d .room;
-      }
+    lies : Sized (tm .layout) msg (length msg)
+    lies = sound tm msg (length msg) (d .trace) (d .sound) .lies
+
+    -- the header is there, and has this count
+    pub header-there : part .start + 36 ≤ length msg
+    header-there = omega (arith, starts, lies .least, lies .within)
+
+    pub header-count : number msg (part .start + 32) ≡ parameterCount (traceIn tm msg)
+    header-count = rw starts (sym (num-part msg (traceIn tm msg .end) (traceIn tm msg .start + 32) (omega (arith, lies .least))))
+
+    pub begun : Written tm msg id before before (record { count = 0; text = 0 }) 0
+    begun =
+        record {
+          upto = at-start tm msg (d .trace) (d .sound);
+          wrote = rw (lines-none tm msg id) (record { bytes = sym (splice-none before 0); place = refl });
+          room = d .room;
+        }
 
   module _ (after : List ℕ) (g : Groups) (k : ℕ) (w : Written tm msg id before after g k) where
     most : g .text ≤ 131072
@@ -53,14 +68,14 @@ module _ (tm : Terms) (msg : List ℕ) (id : ℕ) (before : List ℕ) where
     same-room = wrote-length (w .wrote) (record { fits = omega (arith, most, w .wrote .place, w .room) })
 
     -- a structure is still due
-    module _ (due : k < number msg 32) where
+    module _ (due : k < parameterCount (traceIn tm msg)) where
       still : 0 < w .upto .due
       still = omega (arith, w .upto .total)
 
-      at-activity : (place : ℕ) → Activity place ≡ spotIn (nthTop msg k) → Here tm msg k (g .count) (g .text) place
+      at-activity : (place : ℕ) → Activity place ≡ spotIn (nthTop (tm .layout) msg k) → Here tm msg k (g .count) (g .text) place
       at-activity place e = is-activity tm msg k (g .count) (g .text) (w .upto) still place e
 
-      pub ready : LineReady tm msg id g after (spotIn (nthTop msg k))
+      pub ready : LineReady tm msg id g after (spotIn (nthTop (tm .layout) msg k))
       ready place e =
           let h = at-activity place (sym e) in
           record {
@@ -72,10 +87,10 @@ module _ (tm : Terms) (msg : List ℕ) (id : ℕ) (before : List ℕ) where
             room = record { fits = omega (arith, h .room id, same-room, w .room) };
           }
 
-      pub again : (last : List ℕ) (r : Groups) → Added tm msg id g after last r (spotIn (nthTop msg k)) → Written tm msg id before last r (k + 1)
-      again last r x = go (spotIn (nthTop msg k)) refl x
+      pub again : (last : List ℕ) (r : Groups) → Added tm msg id g after last r (spotIn (nthTop (tm .layout) msg k)) → Written tm msg id before last r (k + 1)
+      again last r x = go (spotIn (nthTop (tm .layout) msg k)) refl x
         where
-          go : (spot : Spot) → spotIn (nthTop msg k) ≡ spot → Added tm msg id g after last r spot → Written tm msg id before last r (k + 1)
+          go : (spot : Spot) → spotIn (nthTop (tm .layout) msg k) ≡ spot → Added tm msg id g after last r spot → Written tm msg id before last r (k + 1)
           go (Activity place) e a =
               let h = at-activity place (sym e) in
               let l = length-append (hopLines tm msg id (g .count)) (hopOf tm msg id (g .count)) in
@@ -95,7 +110,7 @@ module _ (tm : Terms) (msg : List ℕ) (id : ℕ) (before : List ℕ) where
               }
 
     -- none is due any more
-    pub finished : number msg 32 ≤ k → LinesDone tm msg id before after g
+    pub finished : parameterCount (traceIn tm msg) ≤ k → LinesDone tm msg id before after g
     finished h =
         let e = at-end tm msg k (g .count) (g .text) (w .upto) (omega (arith, w .upto .total)) in
         record {

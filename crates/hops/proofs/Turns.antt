@@ -7,22 +7,23 @@ use native.Mathlib.Omega.{arith}
 use lib.ListN.{length, getD, length-append}
 use lib.Seq.{getD-append-seam}
 use borrow.Author.Tests.{eq-eqb}
-use Rattle.meaning.specs.Bytes.{Part, number}
+use Rattle.meaning.specs.Bytes.{Part}
 use Rattle.meaning.specs.Names.{«MQGACF_ACTIVITY»}
 use Rattle.meaning.specs.Answer.{Result, accepted, when, consIf}
 use Rattle.meaning.specs.Structure.{Row, structureAt}
-use Rattle.meaning.specs.Message.{partOf, parameterCount, step}
+use Rattle.meaning.specs.Layout.{partIn}
+use Rattle.meaning.specs.Message.{parameterCount, firstPlace, step}
 use Rattle.meaning.specs.Trace.{Terms, Trace, Top, isTop, isGroup, groupsIn, groups, tops, activities, named, directIn, readTrace}
 use Rattle.meaning.specs.Activity.{Span, sizeOf, spanOf, noGroup, nthActivity, activityGroup, strings, firstName, nameOf, nameBytes}
 use Rattle.meaning.proofs.Tests.{clash}
 use Rattle.meaning.proofs.Structures.{row-at}
-use Rattle.meaning.proofs.Parts.{num-part}
 use Rattle.meaning.proofs.Walks.{Walks, none, more, walks-as, walks-le, walk-of, walks-append, walks-depth, tiles}
 use Rattle.meaning.proofs.Lines.{walks-none}
 use Rattle.meaning.proofs.Tops.{Below, until-walk, tops-next}
 use Rattle.meaning.proofs.Attributes.{groups-more, groups-same}
 use Rattle.meaning.proofs.Spans.{tiles-size}
-use Rattle.meaning.proofs.Sound.{Sound, sound, length-ok}
+use Rattle.meaning.proofs.Layouts.{located-of}
+use Rattle.meaning.proofs.Sound.{Sound, sound}
 use Rattle.reader.specs.Reading.{nthTop}
 use Rattle.hops.specs.Hops.{noName, hopOf}
 use Rattle.hops.specs.Groups.{spotIn}
@@ -45,6 +46,10 @@ head none h = absurd (omega arith)
 head (more {n} {p₁} {r = r} {rs₁} {rs₂} t w₁ w₂) h =
     record { row = r; inside = rs₁; rest = rs₂; next = p₁; there = t; within = w₁; others = walks-as refl (omega arith) refl w₂; split = refl }
 
+-- the part that the trace in a message is
+abbrev pub traceIn : Terms → List ℕ → Part
+traceIn tm msg = partIn (tm .layout) msg (length msg)
+
 -- K STRUCTURES IN: those before `place` have the rows `passed`, and those from there on the rows `left`; n of them were
 -- Activity groups, and their lines end before `at`
 pub record Upto (tm : Terms) (msg : List ℕ) (k n at : ℕ) : Type 0 where
@@ -54,9 +59,9 @@ pub record Upto (tm : Terms) (msg : List ℕ) (k n at : ℕ) : Type 0 where
   pub passed : List Row
   pub left : List Row
   pub due : ℕ
-  pub total : k + due ≡ number msg 32
-  pub before : Walks (partOf msg (length msg)) 36 1 k passed place
-  pub after : Walks (partOf msg (length msg)) place 1 due left (length msg)
+  pub total : k + due ≡ parameterCount (traceIn tm msg)
+  pub before : Walks (traceIn tm msg) (firstPlace (traceIn tm msg)) 1 k passed place
+  pub after : Walks (traceIn tm msg) place 1 due left (traceIn tm msg .end)
   pub counted : n ≡ length (activities passed)
   pub whole : activities passed ++ activities left ≡ activities (trace .rows)
   pub spent : at + 72 ≤ 2 * place
@@ -74,7 +79,7 @@ pub record Here (tm : Terms) (msg : List ℕ) (k n at q : ℕ) : Type 0 where
 
 module _ (tm : Terms) (msg : List ℕ) where
   abbrev m : Part
-  m = partOf msg (length msg)
+  m = traceIn tm msg
 
   -- none yet
   pub at-start : (t : Trace) → readTrace tm msg (length msg) ≡ accepted t → Upto tm msg 0 0 0
@@ -84,11 +89,11 @@ module _ (tm : Terms) (msg : List ℕ) where
       record {
         trace = t;
         reads = e;
-        place = 36;
+        place = firstPlace m;
         passed = [];
         left = t .rows;
         due = parameterCount m;
-        total = omega (arith, num-part msg (length msg) 32 (omega (arith, s .lies .least)));
+        total = omega arith;
         before = none;
         after = s .message .structures .tree;
         counted = refl;
@@ -102,7 +107,7 @@ module _ (tm : Terms) (msg : List ℕ) where
     facts = sound tm msg (length msg) (u .trace) (u .reads)
 
     pub text-most : at ≤ 131072
-    text-most = omega (arith, u .spent, walks-le (u .after), facts .lies .most)
+    text-most = omega (arith, u .spent, walks-le (u .after), facts .lies .within, facts .lies .most)
 
     -- all: the count is that of the trace, and the text is short
     pub at-end : u .due ≡ 0 → (n ≡ length (activities (u .trace .rows))) × (at + 72 ≤ 131072)
@@ -111,10 +116,10 @@ module _ (tm : Terms) (msg : List ℕ) where
         let z = walks-none (u .after) e in
         let x : activities (u .trace .rows) ≡ activities (u .passed) =
         sym (u .whole) ∙ ap (λ (l : List Row). activities (u .passed) ++ activities l) (z .0) ∙ append-nil (activities (u .passed)) in
-        (u .counted ∙ ap length (sym x), omega (arith, u .spent, facts .lies .most, z .1))
+        (u .counted ∙ ap length (sym x), omega (arith, u .spent, facts .lies .within, facts .lies .most, z .1))
 
     module _ (more-due : 0 < u .due) where
-      its : Head m (u .place) (u .due) (u .left) (length msg)
+      its : Head m (u .place) (u .due) (u .left) (m .end)
       its = head (u .after) more-due
 
       abbrev top : Top
@@ -123,25 +128,28 @@ module _ (tm : Terms) (msg : List ℕ) where
       deep : Below 2 (its .inside)
       deep = λ r i. walks-depth (its .within) r i
 
-      -- it stands at the place, fills the bytes up to the next one, and ends in the message
+      -- it stands at the place, fills the bytes up to the next one, and ends in the part, and so in the message
       filled : u .place + (its .row .size + sizeOf (its .inside)) ≡ its .next
       filled = omega (arith, tiles-size m (u .place + its .row .size) (its .inside) (its .next) (tiles (its .within)))
 
-      ends : its .next ≤ length msg
+      ends : its .next ≤ m .end
       ends = omega (arith, walks-le (its .others))
+
+      ends-there : its .next ≤ length msg
+      ends-there = omega (arith, ends, facts .lies .within)
 
       is-top : isTop (its .row) ≡ true
       is-top = eq-eqb (its .row .depth) 1 (sym (row-at m (u .place) 1 (its .row) (its .there) .at-depth))
 
       -- THE READER finds it
-      found : nthTop msg k ≡ accepted (record { row = its .row; next = u .place + its .row .size })
+      found : nthTop (tm .layout) msg k ≡ accepted (record { row = its .row; next = u .place + its .row .size })
       unfolding nthTop step
       found =
           let w = walk-of (u .before) (omega (arith, ends, filled)) in
-          rw (length-ok msg (length msg) (facts .lies), w, its .there) refl
+          rw (located-of (tm .layout) msg (length msg) (facts .lies), w, its .there) refl
 
       -- with it, one structure more is passed
-      passed-it : Walks m 36 1 (k + 1) (u .passed ++ (its .row ∷ its .inside)) (its .next)
+      passed-it : Walks m (firstPlace m) 1 (k + 1) (u .passed ++ (its .row ∷ its .inside)) (its .next)
       passed-it =
           let one : Walks m (u .place) 1 1 (its .row ∷ (its .inside ++ [])) (its .next) = more (its .there) (its .within) none in
           walks-append 1 (its .row ∷ its .inside) (its .next) (u .before) (rw (append-nil (its .inside)) at one)
@@ -152,7 +160,7 @@ module _ (tm : Terms) (msg : List ℕ) where
           ap activities (its .split)
           ∙ ap (groupsIn «MQGACF_ACTIVITY») (tops-next (its .row) (its .inside) (its .rest) (sym (row-at m (u .place) 1 (its .row) (its .there) .at-depth)) deep (until-walk (its .others)))
 
-      spot : spotIn (nthTop msg k) ≡ when (isGroup «MQGACF_ACTIVITY» top) (Activity (its .row .place)) Other
+      spot : spotIn (nthTop (tm .layout) msg k) ≡ when (isGroup «MQGACF_ACTIVITY» top) (Activity (its .row .place)) Other
       spot = ap spotIn found
 
       -- what is not an Activity group has no line
@@ -176,7 +184,7 @@ module _ (tm : Terms) (msg : List ℕ) where
             few = omega (arith, u .few);
           }
 
-      pub is-other : Other ≡ spotIn (nthTop msg k) → Upto tm msg (k + 1) n at
+      pub is-other : Other ≡ spotIn (nthTop (tm .layout) msg k) → Upto tm msg (k + 1) n at
       is-other e = go (isGroup «MQGACF_ACTIVITY» top) refl
         where
           go : (b : Bool) → isGroup «MQGACF_ACTIVITY» top ≡ b → Upto tm msg (k + 1) n at
@@ -198,11 +206,11 @@ module _ (tm : Terms) (msg : List ℕ) where
         unfolding activityGroup
         group-is = ap (λ (r : Result Trace). spanOf (nthActivity r n)) (u .reads) ∙ ap spanOf nth
 
-        name-is : (id : ℕ) → nameOf tm msg (length msg) n id ≡ firstName msg (length msg) (named id (strings (directIn (its .inside))))
+        name-is : (id : ℕ) → nameOf tm msg (length msg) n id ≡ firstName m msg (named id (strings (directIn (its .inside))))
         unfolding nameOf
         name-is id =
-            ap (λ (r : Result Trace). firstName msg (length msg) (named id (strings (directIn (nthActivity r n .inside))))) (u .reads)
-            ∙ ap (λ (t : Top). firstName msg (length msg) (named id (strings (directIn (t .inside))))) nth
+            ap (λ (r : Result Trace). firstName m msg (named id (strings (directIn (nthActivity r n .inside))))) (u .reads)
+            ∙ ap (λ (t : Top). firstName m msg (named id (strings (directIn (t .inside))))) nth
 
         at-place : its .row .place ≡ u .place
         at-place = sym (row-at m (u .place) 1 (its .row) (its .there) .at-place)
@@ -212,8 +220,8 @@ module _ (tm : Terms) (msg : List ℕ) where
         line-short id =
             let g = row-at m (u .place) 1 (its .row) (its .there) in
             let a = line-most (n + 1) (its .row .place) (its .row .size + sizeOf (its .inside)) (nameBytes msg noName (nameOf tm msg (length msg) n id))
-            (omega (arith, at-place, filled, ends, facts .lies .most)) (omega (arith, filled, ends, facts .lies .most)) in
-            let b = name-short msg (length msg) id (its .inside) (its .within) in
+            (omega (arith, at-place, filled, ends-there, facts .lies .most)) (omega (arith, filled, ends-there, facts .lies .most)) in
+            let b = name-short m msg id (its .inside) (its .within) in
             rw (group-is) (omega (arith, a, rw (← name-is id) at b, g .at-least))
 
         line-next : (id : ℕ) → Upto tm msg (k + 1) (n + 1) (at + length (hopOf tm msg id n))
@@ -240,15 +248,15 @@ module _ (tm : Terms) (msg : List ℕ) where
         here-now : Here tm msg k n at (its .row .place)
         here-now = record {
           placed = sym (ap (λ (s : Span). s .place) group-is);
-          near = omega (arith, at-place, filled, ends, facts .lies .most);
-          within = omega (arith, ap (λ (s : Span). s .length) group-is, at-place, filled, ends);
-          short = omega (arith, ap (λ (s : Span). s .length) group-is, filled, ends, facts .lies .most);
-          few = omega (arith, u .few, walks-le (u .before), filled, ends, facts .lies .most);
-          room = λ id. omega (arith, u .spent, filled, ends, facts .lies .most, line-short id);
+          near = omega (arith, at-place, filled, ends-there, facts .lies .most);
+          within = omega (arith, ap (λ (s : Span). s .length) group-is, at-place, filled, ends-there);
+          short = omega (arith, ap (λ (s : Span). s .length) group-is, filled, ends-there, facts .lies .most);
+          few = omega (arith, u .few, walks-le (u .before), filled, ends-there, facts .lies .most);
+          room = λ id. omega (arith, u .spent, filled, ends-there, facts .lies .most, line-short id);
           next = λ id. line-next id;
         }
 
-      pub is-activity : (q : ℕ) → Activity q ≡ spotIn (nthTop msg k) → Here tm msg k n at q
+      pub is-activity : (q : ℕ) → Activity q ≡ spotIn (nthTop (tm .layout) msg k) → Here tm msg k n at q
       is-activity q e = go (isGroup «MQGACF_ACTIVITY» top) refl
         where
           go : (b : Bool) → isGroup «MQGACF_ACTIVITY» top ≡ b → Here tm msg k n at q

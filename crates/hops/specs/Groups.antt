@@ -7,10 +7,13 @@ use lib.ListN.{length}
 use lib.Dec.{eqb}
 use Rattle.meaning.specs.Names.{«MQCFT_GROUP», «MQGACF_ACTIVITY»}
 use Rattle.meaning.specs.Answer.{Result, accepted, refused, when}
+use Rattle.meaning.specs.Layout.{partIn}
 use Rattle.meaning.specs.Message.{Stepped}
 use Rattle.meaning.specs.Trace.{Terms, Trace, activities, readTrace}
 use Rattle.meaning.specs.Activity.{activityGroup}
 use Rattle.text.specs.Wrote.{Room, Wrote}
+use Rattle.trace.specs.Locations.{lying}
+use Rattle.layout.specs.declared.part.Part.{Part as PartIn}
 use Rattle.hops.specs.Hops.{hopOf, hopLines}
 use Rattle.hops.specs.declared.groups.Spot.{Spot}
 use Rattle.hops.specs.declared.groups.Spot.the-variants.{Activity, Other}
@@ -40,10 +43,11 @@ abbrev pub Added : Terms → List ℕ → ℕ → Groups → List ℕ → List �
 Added tm msg id g before after r (Activity place) = (r .count ≡ g .count + 1) × Wrote before (g .text) (hopOf tm msg id (g .count)) after (r .text)
 Added tm msg id g before after r Other = (r ≡ g) × (after ≡ before)
 
--- a sound trace whose lines are due
-pub record LinesDue (tm : Terms) (msg out : List ℕ) : Type 0 where
+-- a sound trace, which is this part of its message, whose lines are due
+pub record LinesDue (tm : Terms) (msg : List ℕ) (part : PartIn) (out : List ℕ) : Type 0 where
   pub trace : Trace
   pub sound : readTrace tm msg (length msg) ≡ accepted trace
+  pub lies : part ≡ lying (partIn (tm .layout) msg (length msg))
   pub room : 131072 ≤ length out
 
 -- how many Activity groups there are

@@ -3,11 +3,14 @@ use crate::line::put_hop;
 use activities::activity_group;
 use activities::named_string;
 use attributes::MQGACF_ACTIVITY;
+use layout::Layout;
+use layout::Part;
 use pcf::Stepped;
 use reader::nth_top;
 use structure::MQCFT_GROUP;
 use wire::number_at;
 ghost use mathlib.Core.Path.{_≡_};
+ghost use Rattle.layout.specs.Layouts.{layoutOf};
 ghost use Rattle.attributes.specs.Terms.{termsOf};
 ghost use Rattle.reader.specs.Reading.{nthTop};
 ghost use Rattle.text.specs.Wrote.{Wrote};
@@ -30,10 +33,10 @@ pub struct Groups {
 }
 
 // The k-th structure of the top level, as a reader of the message finds it.
-fn spot_at(msg: &[u8], k: u32) -> Spot
-    ensures { λ r. ⌜ r ≡ spotIn (nthTop (now (msg .entry)) k) ⌝ }
+fn spot_at(msg: &[u8], layout: Layout, k: u32) -> Spot
+    ensures { λ r. ⌜ r ≡ spotIn (nthTop (layoutOf layout) (now (msg .entry)) k) ⌝ }
 {
-    let stepped = nth_top(msg, k);
+    let stepped = nth_top(msg, layout, k);
     match stepped {
         Stepped::Refused(_) => Spot::Other,
         Stepped::Structure(row, _) => {
@@ -51,6 +54,7 @@ fn spot_at(msg: &[u8], k: u32) -> Spot
 // The line of the n-th Activity group, from 0, which is at `place`.
 fn put_group(
     msg: &[u8],
+    layout: Layout,
     sheet: [u32; 8],
     id: u32,
     n: u32,
@@ -58,27 +62,44 @@ fn put_group(
     out: &mut [u8],
     at: usize,
 ) -> usize
-    requires { ⌜ Reached (termsOf sheet) (now msg) id n place (now out) at ⌝ }
-    ensures { λ r. ⌜ Wrote (now (out .entry)) at (hopOf (termsOf sheet) (now (msg .entry)) id n) (now (out .exit)) r ⌝ }
+    requires { ⌜ Reached (termsOf (layoutOf layout) sheet) (now msg) id n place (now out) at ⌝ }
+    ensures { λ r. ⌜ Wrote (now (out .entry)) at (hopOf (termsOf (layoutOf layout) sheet) (now (msg .entry)) id n) (now (out .exit)) r ⌝ }
 {
     let len = msg.len();
     let none = NO_NAME;
-    let group = activity_group(msg, len, sheet, n as usize);
-    let name = named_string(msg, len, sheet, n as usize, id, &none);
+    let group = activity_group(msg, len, layout, sheet, n as usize);
+    let name = named_string(msg, len, layout, sheet, n as usize, id, &none);
     put_hop(out, at, n + 1, place as u32, group.len() as u32, name)
 }
 
 // The k-th structure of the top level, with the groups before it: an Activity group has a line behind theirs, anything else
 // has none.
-fn put_top(msg: &[u8], sheet: [u32; 8], id: u32, k: u32, before: Groups, out: &mut [u8]) -> Groups
-    requires { ⌜ LineReady (termsOf sheet) (now msg) id before (now out) (spotIn (nthTop (now msg) k)) ⌝ }
-    ensures { λ r. ⌜ Added (termsOf sheet) (now (msg .entry)) id before (now (out .entry)) (now (out .exit)) r (spotIn (nthTop (now (msg .entry)) k)) ⌝ }
+fn put_top(
+    msg: &[u8],
+    layout: Layout,
+    sheet: [u32; 8],
+    id: u32,
+    k: u32,
+    before: Groups,
+    out: &mut [u8],
+) -> Groups
+    requires { ⌜ LineReady (termsOf (layoutOf layout) sheet) (now msg) id before (now out) (spotIn (nthTop (layoutOf layout) (now msg) k)) ⌝ }
+    ensures { λ r. ⌜ Added (termsOf (layoutOf layout) sheet) (now (msg .entry)) id before (now (out .entry)) (now (out .exit)) r (spotIn (nthTop (layoutOf layout) (now (msg .entry)) k)) ⌝ }
 {
-    let spot = spot_at(msg, k);
+    let spot = spot_at(msg, layout, k);
     match spot {
         Spot::Other => before,
         Spot::Activity(place) => {
-            let text = put_group(msg, sheet, id, before.count, place, out, before.text);
+            let text = put_group(
+                msg,
+                layout,
+                sheet,
+                id,
+                before.count,
+                place,
+                out,
+                before.text,
+            );
             Groups {
                 count: before.count + 1,
                 text,
@@ -88,15 +109,22 @@ fn put_top(msg: &[u8], sheet: [u32; 8], id: u32, k: u32, before: Groups, out: &m
 }
 
 // Goes over the top-level structures with a reader, and writes a line for each Activity group.
-pub fn put_groups(msg: &[u8], sheet: [u32; 8], id: u32, out: &mut [u8]) -> Groups
-    requires { ⌜ LinesDue (termsOf sheet) (now msg) (now out) ⌝ }
-    ensures { λ r. ⌜ LinesDone (termsOf sheet) (now (msg .entry)) id (now (out .entry)) (now (out .exit)) r ⌝ }
+pub fn put_groups(
+    msg: &[u8],
+    layout: Layout,
+    part: Part,
+    sheet: [u32; 8],
+    id: u32,
+    out: &mut [u8],
+) -> Groups
+    requires { ⌜ LinesDue (termsOf (layoutOf layout) sheet) (now msg) part (now out) ⌝ }
+    ensures { λ r. ⌜ LinesDone (termsOf (layoutOf layout) sheet) (now (msg .entry)) id (now (out .entry)) (now (out .exit)) r ⌝ }
 {
-    let count = number_at(msg, 32);
+    let count = number_at(msg, part.start + 32);
     let mut groups = Groups { count: 0, text: 0 };
     let mut k = 0;
     while k < count {
-        groups = put_top(msg, sheet, id, k, groups, out);
+        groups = put_top(msg, layout, sheet, id, k, groups, out);
         k += 1;
     }
     groups

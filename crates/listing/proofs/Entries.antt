@@ -6,102 +6,113 @@ use native.Mathlib.Nat.{zero-add}
 use native.Mathlib.Omega.{arith}
 use lib.ListN.{length, take}
 use lib.Seq.{length-take-le}
-use Rattle.meaning.specs.Bytes.{Part, splice, whole}
+use Rattle.meaning.specs.Bytes.{Part, splice}
 use Rattle.meaning.specs.Answer.{Result, accepted, refused, andThen}
 use Rattle.meaning.specs.Structure.{Row}
-use Rattle.meaning.specs.Message.{partOf, rowsOf, scan, check}
+use Rattle.meaning.specs.Layout.{Layout, partIn, located}
+use Rattle.meaning.specs.Message.{rowsOf, scan, check}
 use Rattle.meaning.specs.Listing.{listingText, refusalLine, printed, listing}
 use Rattle.meaning.proofs.Tests.{clash}
-use Rattle.meaning.proofs.Scans.{Sized}
-use Rattle.meaning.proofs.Sound.{SoundRows, sound-scan, rows-of}
+use Rattle.meaning.proofs.Layouts.{Inside, inside, sized}
 use Rattle.meaning.proofs.Outcomes.{scan-refused, check-accepted, check-refused}
 use Rattle.text.specs.Wrote.{Wrote}
 use Rattle.text.specs.Prints.{Prints}
 use Rattle.text.proofs.Printed.{prints}
 use Rattle.refusals.specs.Refusals.{numberOf, placeOf, refusal}
 use Rattle.refusals.specs.declared.Refusal.{Refusal}
-use Rattle.listing.specs.Text.{textOf, Checked}
+use Rattle.layout.specs.Layouts.{partAt}
+use Rattle.layout.specs.declared.part.Part.{Part as PartIn}
+use Rattle.listing.specs.Text.{partFrom, textOf, Checked}
 use Rattle.listing.specs.Entries.{filled, ListedAs}
 use Rattle.listing.specs.declared.Listed.the-variants.{Text, Refused}
 
--- the message as a slice of its own
-part-whole : (buf : List ℕ) (len : ℕ) → len ≤ length buf → partOf buf len ≡ whole (take len buf)
-part-whole buf len h = ap (λ (x : ℕ). record { bytes = take len buf; start = 0; end = x }) (sym (length-take-le len buf h))
+-- the part as the slice that ends with it
+part-slice : (buf : List ℕ) (p : PartIn) → p .end ≤ length buf → partAt buf p ≡ partFrom (take (p .end) buf) (p .start)
+part-slice buf p h = ap (λ (x : ℕ). record { bytes = take (p .end) buf; start = p .start; end = x }) (sym (length-take-le (p .end) buf h))
 
--- LIST. A message with n structures.
-module _ (buf : List ℕ) (len n : ℕ) (e : check buf len ≡ accepted n) where
-  its-rows : List Row
-  its-rows = (check-accepted buf len n e) .0
+-- LIST. A message whose part p was located.
+module _ (l : Layout) (buf : List ℕ) (len : ℕ) (p : PartIn) (lies : located l buf len ≡ accepted (partAt buf p)) where
+  pub around : Inside (partAt buf p) buf len
+  around = inside l buf len (partAt buf p) lies
 
-  its-scan : scan buf len ≡ accepted its-rows
-  unfolding its-rows
-  its-scan = (check-accepted buf len n e) .1
+  pub end-there : p .end ≤ length buf
+  end-there = omega (arith, around .within, around .there)
 
-  its : Sized buf len × SoundRows (partOf buf len) its-rows
-  its = sound-scan buf len its-rows its-scan
+  its-scan : scan l buf len ≡ rowsOf (partFrom (take (p .end) buf) (p .start))
+  unfolding scan
+  its-scan = ap (λ (x : Result Part). andThen x rowsOf) lies ∙ ap rowsOf (part-slice buf p end-there)
 
-  pub inside : len ≤ length buf
-  inside = its .0 .there
+  -- it has n structures
+  module _ (n : ℕ) (e : check l buf len ≡ accepted n) where
+    its-rows : List Row
+    its-rows = (check-accepted l buf len n e) .0
 
-  as-whole : rowsOf (whole (take len buf)) ≡ accepted its-rows
-  as-whole = ap rowsOf (sym (part-whole buf len (its .0 .there))) ∙ rows-of (partOf buf len) its-rows (its .1)
+    scanned : scan l buf len ≡ accepted its-rows
+    unfolding its-rows
+    scanned = (check-accepted l buf len n e) .1
 
-  pub list-checked : Checked (take len buf) n
-  unfolding its-rows
-  list-checked =
-      let l : length (take len buf) ≡ len = length-take-le len buf (its .0 .there) in
-      record {
-        rows = its-rows;
-        sound = as-whole;
-        header = omega (arith, its .0 .least);
-        small = omega (arith, its .0 .most);
-        counted = sym ((check-accepted buf len n e) .2);
-      }
+    pub list-checked : Checked (take (p .end) buf) (p .start) n
+    unfolding its-rows
+    list-checked =
+        let k : length (take (p .end) buf) ≡ p .end = length-take-le (p .end) buf end-there in
+        record {
+          rows = its-rows;
+          sound = sym its-scan ∙ scanned;
+          header = omega (arith, around .room);
+          small = omega (arith, around .within, around .most);
+          counted = sym ((check-accepted l buf len n e) .2);
+        }
 
-  same-text : textOf (take len buf) (rowsOf (whole (take len buf))) ≡ listingText (partOf buf len) len its-rows
-  same-text =
-      ap (textOf (take len buf)) as-whole
-      ∙ ap (λ (x : Part). listingText x (x .end) its-rows) (sym (part-whole buf len (its .0 .there)))
+    abbrev part : Part
+    part = partFrom (take (p .end) buf) (p .start)
 
-  pub list-sound : (out after : List ℕ) (r : ℕ) → Wrote out 0 (textOf (take len buf) (rowsOf (whole (take len buf)))) after r → ListedAs buf len out after (Text r)
-  list-sound out after r w =
-      record {
-        answer = rw its-scan (ap accepted (w .place ∙ zero-add _ ∙ ap length same-text));
-        bytes = rw its-scan (w .bytes ∙ ap (splice out 0) same-text);
-      }
+    same-text : textOf part len (rowsOf part) ≡ listingText (partIn l buf len) len its-rows
+    same-text =
+        ap (textOf part len) (sym its-scan ∙ scanned)
+        ∙ ap (λ (x : Part). listingText x len its-rows) (sym (part-slice buf p end-there) ∙ sym (sized l buf len (partAt buf p) lies .0))
 
-pub list-refused : (buf : List ℕ) (len : ℕ) (r : Refusal) (out : List ℕ) → check buf len ≡ refusal r → ListedAs buf len out out (Refused r)
-list-refused buf len r out e =
-    let s = check-refused buf len (numberOf r) (placeOf r) e in
-    record { answer = rw s refl; bytes = rw s refl }
+    pub list-sound : (out after : List ℕ) (r : ℕ) → Wrote out 0 (textOf part len (rowsOf part)) after r → ListedAs l buf len out after (Text r)
+    list-sound out after r w =
+        record {
+          answer = rw scanned (ap accepted (w .place ∙ zero-add _ ∙ ap length same-text));
+          bytes = rw scanned (w .bytes ∙ ap (splice out 0) same-text);
+        }
+
+-- a message that is refused
+scan-listed : (l : Layout) (buf : List ℕ) (len : ℕ) (r : Refusal) (out : List ℕ) → scan l buf len ≡ refusal r → ListedAs l buf len out out (Refused r)
+scan-listed l buf len r out s = record { answer = rw s refl; bytes = rw s refl }
+
+pub list-refused : (l : Layout) (buf : List ℕ) (len : ℕ) (r : Refusal) (out : List ℕ) → check l buf len ≡ refusal r → ListedAs l buf len out out (Refused r)
+list-refused l buf len r out e = scan-listed l buf len r out (check-refused l buf len (numberOf r) (placeOf r) e)
 
 -- what `list` leaves is what is printed, where it gives a text
-pub print-listed : (input before after : List ℕ) (n : ℕ) → ListedAs input (length input) before after (Text n) → Prints (listing input (length input)) before after n
+pub print-listed : (l : Layout) (input before after : List ℕ) (n : ℕ) → ListedAs l input (length input) before after (Text n)
+    → Prints (listing l input (length input)) before after n
 unfolding listing
-print-listed input before after n l = prints (go (scan input (length input)) (l .answer) (l .bytes))
+print-listed l input before after n x = prints (go (scan l input (length input)) (x .answer) (x .bytes))
   where
-    go : (x : Result (List Row)) → _≡_ {A = Result ℕ} (accepted n) (andThen x (λ rows. accepted (length (listingText (partOf input (length input)) (length input) rows))))
-        → after ≡ filled before input (length input) x → Wrote before 0 (printed input (length input) x) after n
+    go : (y : Result (List Row)) → _≡_ {A = Result ℕ} (accepted n) (andThen y (λ rows. accepted (length (listingText (partIn l input (length input)) (length input) rows))))
+        → after ≡ filled l before input (length input) y → Wrote before 0 (printed l input (length input) y) after n
     go (accepted rows) e f =
-        let g : n ≡ length (listingText (partOf input (length input)) (length input) rows) = cc in
+        let g : n ≡ length (listingText (partIn l input (length input)) (length input) rows) = cc in
         record { bytes = f; place = g ∙ sym (zero-add _) }
     go (refused k p) e f = absurd (clash (cc))
 
 -- where it refuses, it leaves the buffer, and the refusal is the scan's
-module _ (input before middle : List ℕ) (r : Refusal) (l : ListedAs input (length input) before middle (Refused r)) where
-  its-refusal : (scan input (length input) ≡ refused (numberOf r) (placeOf r)) × (middle ≡ before)
-  its-refusal = go (scan input (length input)) refl (l .answer) (l .bytes)
+module _ (l : Layout) (input before middle : List ℕ) (r : Refusal) (x : ListedAs l input (length input) before middle (Refused r)) where
+  its-refusal : (scan l input (length input) ≡ refused (numberOf r) (placeOf r)) × (middle ≡ before)
+  its-refusal = go (scan l input (length input)) refl (x .answer) (x .bytes)
     where
-      go : (x : Result (List Row)) → scan input (length input) ≡ x
-          → _≡_ {A = Result ℕ} (refused (numberOf r) (placeOf r)) (andThen x (λ rows. accepted (length (listingText (partOf input (length input)) (length input) rows))))
-          → middle ≡ filled before input (length input) x → (scan input (length input) ≡ refused (numberOf r) (placeOf r)) × (middle ≡ before)
+      go : (y : Result (List Row)) → scan l input (length input) ≡ y
+          → _≡_ {A = Result ℕ} (refused (numberOf r) (placeOf r)) (andThen y (λ rows. accepted (length (listingText (partIn l input (length input)) (length input) rows))))
+          → middle ≡ filled l before input (length input) y → (scan l input (length input) ≡ refused (numberOf r) (placeOf r)) × (middle ≡ before)
       go (accepted rows) s e f = absurd (clash (cc))
       go (refused k p) s e f = (cc, f)
 
   pub refused-place : placeOf r < 4294967296
-  refused-place = omega (arith, scan-refused input (length input) (numberOf r) (placeOf r) (its-refusal .0) .place)
+  refused-place = omega (arith, scan-refused l input (length input) (numberOf r) (placeOf r) (its-refusal .0) .place)
 
-  pub print-refused : (after : List ℕ) (n : ℕ) → Wrote middle 0 (refusalLine (numberOf r) (placeOf r)) after n → Prints (listing input (length input)) before after n
+  pub print-refused : (after : List ℕ) (n : ℕ) → Wrote middle 0 (refusalLine (numberOf r) (placeOf r)) after n → Prints (listing l input (length input)) before after n
   unfolding listing
   print-refused after n w =
       prints

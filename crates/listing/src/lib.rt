@@ -2,8 +2,11 @@
 mod rows;
 mod whole;
 
+use layout::Layout;
 use pcf::Checked;
-use pcf::check;
+use pcf::Opening;
+use pcf::opened;
+use pcf::structure_count;
 use refusals::Refusal;
 use text::put_refusal;
 use whole::put_listing;
@@ -11,25 +14,36 @@ ghost use Prim.Native.Nat.{_<_};
 ghost use lib.ListN.{length};
 ghost use Rattle.meaning.specs.Listing.{refusalLine, listing as listingOf};
 ghost use Rattle.refusals.specs.Refusals.{numberOf, placeOf};
+ghost use Rattle.layout.specs.Layouts.{layoutOf};
 ghost use Rattle.text.specs.Prints.{Prints};
 ghost use Rattle.text.specs.Wrote.{Wrote};
 ghost use Rattle.listing.specs.Entries.{ListedAs};
 
-// What `list` answers: the text's length, or 1 to 5.
+// What `list` answers: the text's length, or 1, 18, or 2 to 5.
 pub enum Listed {
     Text(usize),
     Refused(Refusal),
 }
 
-// LIST: the listing of the message in the first `len` bytes, written from the buffer's first byte on. A message that is
-// refused leaves the buffer as it was, so the check comes first.
-pub fn list(msg: &[u8], len: usize, out: &mut [u8; 131072]) -> Listed
-    ensures { λ r. ⌜ ListedAs (now (msg .entry)) len (now (out .entry)) (now (out .exit)) r ⌝ }
+// LIST: the listing of the message in the first `len` bytes, written from the buffer's first byte on: the structures of its
+// part, and in the header line the whole message's length. A message that is refused leaves the buffer as it was, so the check
+// comes first.
+pub fn list(msg: &[u8], len: usize, layout: Layout, out: &mut [u8; 131072]) -> Listed
+    ensures { λ r. ⌜ ListedAs (layoutOf layout) (now (msg .entry)) len (now (out .entry)) (now (out .exit)) r ⌝ }
 {
-    let found = check(msg, len);
-    match found {
-        Checked::Refused(r) => Listed::Refused(r),
-        Checked::Sound(count) => Listed::Text(put_listing(&msg[..len], count, out)),
+    let opening = opened(msg, len, layout);
+    match opening {
+        Opening::Refused(r) => Listed::Refused(r),
+        Opening::Sound(part, count) => {
+            let found = structure_count(msg, part, count);
+            match found {
+                Checked::Refused(r) => Listed::Refused(r),
+                Checked::Sound(n) => {
+                    let end = part.end;
+                    Listed::Text(put_listing(&msg[..end], part.start, len as u32, n, out))
+                }
+            }
+        }
     }
 }
 
@@ -42,10 +56,10 @@ pub fn refused_line(r: Refusal, out: &mut [u8; 131072]) -> usize
 }
 
 // PRINT: all that the listing program writes for an input. The answer is the text's length.
-pub fn print(input: &[u8], out: &mut [u8; 131072]) -> usize
-    ensures { λ r. ⌜ Prints (listingOf (now (input .entry)) (length (now (input .entry)))) (now (out .entry)) (now (out .exit)) r ⌝ }
+pub fn print(input: &[u8], layout: Layout, out: &mut [u8; 131072]) -> usize
+    ensures { λ r. ⌜ Prints (listingOf (layoutOf layout) (now (input .entry)) (length (now (input .entry)))) (now (out .entry)) (now (out .exit)) r ⌝ }
 {
-    let listed = list(input, input.len(), out);
+    let listed = list(input, input.len(), layout, out);
     match listed {
         Listed::Text(n) => n,
         Listed::Refused(r) => refused_line(r, out),

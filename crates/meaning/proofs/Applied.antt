@@ -1,28 +1,30 @@
 -- What an accepted event leaves is a sound trace: the same places, one counter one higher, every other value as it was;
--- with the group appended its rows stand behind the others.
+-- with the group appended its rows stand behind the others, and the user data behind the group.
 use mathlib.Core.Path.{_≡_, refl, sym, ap, _∙_, subst}
 use mathlib.Core.Bool.{Bool, true, false}
 use mathlib.Core.List.{List, _++_, map}
 use Prim.Native.Nat.{ℕ, _+_, _≤_, _<_}
 use native.Mathlib.Nat.{add-zero, zero-add}
 use native.Mathlib.Omega.{arith}
-use lib.ListN.{length, getD, set, length-set, length-map}
+use lib.ListN.{length, getD, set, length-set, length-map, length-append, List·getD-append}
 use lib.Seq.{getD-take, ext-getD, getD-set-same, getD-set-other}
 use lib.Dec.{leb, eqb}
 use borrow.Author.Tests.{lt-ltb, leb-true, eqb-true, eqb-false}
 use Rattle.meaning.proofs.Stores.{length-store, store-same, num-store}
-use Rattle.meaning.specs.Bytes.{Part, num, bump, whole}
+use Rattle.meaning.specs.Bytes.{Part, partOf, num, bump, whole}
 use Rattle.meaning.specs.Names.{«MQCFT_GROUP», «MQGACF_ACTIVITY», mostBytes, mostCount, twoTo31}
 use Rattle.meaning.specs.Answer.{Result, accepted, refused}
 use Rattle.meaning.specs.Structure.{Row, small}
 use Rattle.meaning.specs.Walk.{Walked, walk}
-use Rattle.meaning.specs.Message.{parameterCount, countPlace, partOf}
+use Rattle.meaning.specs.Layout.{startOf, partIn, userData, embeddingOf, lengthened}
+use Rattle.meaning.specs.Message.{parameterCount, countPlace}
 use Rattle.meaning.specs.Trace.{Terms, Trace, value, valuePlace, valueAt, valuesAt}
 use Rattle.meaning.specs.Event.{endsAt, groupOk, grown}
 use Rattle.meaning.specs.View.{risen}
 use Rattle.meaning.proofs.Tests.{clash, and-true}
 use Rattle.meaning.proofs.Structures.{Match, num-match, num-same}
-use Rattle.meaning.proofs.Walks.{Walks, walks, walks-as, walks-shift, shift}
+use Rattle.meaning.proofs.Walks.{Walks, walks, walks-as, walks-four, walks-shift, shift}
+use Rattle.meaning.proofs.Layouts.{Sized, behind-part, same-part, same-embedding, grown-part, length-lengthened, lengthened-same, lengthened-embedding}
 use Rattle.meaning.proofs.Splices.{length-splice, splice-before, splice-in}
 use Rattle.meaning.proofs.Sound.{SoundMessage, Sound}
 use Rattle.meaning.proofs.Changed.{Changed, Lies, lies, length-places, length-values, value-of, values-kept, count-le, sound-raised, sound-appended, OneActivity}
@@ -90,7 +92,7 @@ risen-is v v′ c a b h r o =
 module _ (tm : Terms) (buf : List ℕ) (len : ℕ) (t : Trace) (s : Sound tm buf len t) (c : ℕ) (lo : 1 ≤ c) (hi : c ≤ 3)
     (below : value (t .values) c < mostCount) where
   abbrev P : Part
-  P = partOf buf len
+  P = partIn (tm .layout) buf len
 
   -- the counter's structure, and the buffer with its Value one higher
   abbrev q : ℕ
@@ -103,7 +105,7 @@ module _ (tm : Terms) (buf : List ℕ) (len : ℕ) (t : Trace) (s : Sound tm buf
   at-q = lies (tm .sheet) P t (s .sheet-ok) (s .message) c (omega arith)
 
   fits : valuePlace q + 4 ≤ length buf
-  fits = omega (arith, at-q .inside, s .lies .there)
+  fits = omega (arith, at-q .inside, s .lies .within, s .lies .there)
 
   pub length-raised : length b₁ ≡ length buf
   length-raised = length-store P buf (valuePlace q) (num P (valuePlace q) + 1) fits
@@ -138,73 +140,117 @@ module _ (tm : Terms) (buf : List ℕ) (len : ℕ) (t : Trace) (s : Sound tm buf
         eight : length (valuesAt m (t .places)) ≡ 8
         eight = length-map (t .places) (valueAt m) ∙ length-places (tm .sheet) P t (s .sheet-ok) (s .message)
 
+  -- in front of the part nothing is raised
+  raised-front : (i : ℕ) → i < startOf (tm .layout .form) → getD buf i 0 ≡ getD b₁ i 0
+  raised-front i h = sym (raised-same i (λ w. omega (arith, at-q .behind, w .0)))
+
+  -- the part lies as it did
+  pub raised-part : Sized (tm .layout) b₁ len × (partIn (tm .layout) b₁ len .end ≡ P .end)
+  raised-part = same-part (tm .layout) buf b₁ len (s .lies) (omega (arith, length-raised, s .lies .there)) (λ i h k. raised-front i h)
+
+  pub raised-embedding : embeddingOf (tm .layout .form) (partOf b₁ len) ≡ embeddingOf (tm .layout .form) (partOf buf len)
+  raised-embedding =
+      let n = s .lies .there in
+      let k : startOf (tm .layout .form) ≤ len = omega (arith, s .lies .least, s .lies .within) in
+      sym (same-embedding (tm .layout .form) buf b₁ len len k k n (omega (arith, length-raised)) (λ i a b. raised-front i b))
+
   -- the counter's Value alone
   pub raised-sound : Sound tm b₁ len (record { rows = t .rows; places = t .places; values = risen (t .values) c })
   unfolding valueAt
   raised-sound =
       let a = at-q .inside in
       let z = at-q .behind in
-      let n₀ = s .lies .there in
+      let n₀ = s .lies .within in
       let n₁ = s .lies .least in
-      let n₂ = s .lies .most in
-      let nr : length b₁ ≡ length buf = length-raised in
-      let m : Part = partOf b₁ len in
+      let m : Part = partIn (tm .layout) b₁ len in
+      let ends : m .end ≡ P .end = raised-part .1 in
+      let n₂ : m .end ≤ mostBytes = omega (arith, s .lies .most) in
       let ch : Changed P m q =
       record {
         same-start = refl;
         grows = omega arith;
-        bytes = λ i z₀ h x y. getD-take len buf i 0 (omega arith) ∙ sym (raised-same i x) ∙ sym (getD-take len b₁ i 0 (omega arith));
+        bytes = λ i z₀ h x y. getD-take (P .end) buf i 0 h ∙ sym (raised-same i x) ∙ sym (getD-take (m .end) b₁ i 0 (omega arith));
       } in
-      let e : num m (valuePlace q) ≡ value (t .values) c + 1 = raised-value m (λ i x y. getD-take len b₁ i 0 (omega arith)) in
+      let e : num m (valuePlace q) ≡ value (t .values) c + 1 = raised-value m (λ i x y. getD-take (m .end) b₁ i 0 (omega arith)) in
       let k : parameterCount m ≡ parameterCount P =
-      sym (num-same P m (countPlace P) (λ i x y. getD-take len buf i 0 (omega arith)
-      ∙ sym (raised-same i (λ w. omega (arith, w .0))) ∙ sym (getD-take len b₁ i 0 (omega arith)))) in
-      let sm = sound-raised (tm .sheet) P t (s .sheet-ok) (s .message) m c lo hi ch (still-small m ch e n₂) n₂ refl k in
+      sym (num-same P m (countPlace P) (λ i x y. getD-take (P .end) buf i 0 (omega arith)
+      ∙ sym (raised-same i (λ w. omega (arith, w .0))) ∙ sym (getD-take (m .end) b₁ i 0 (omega arith)))) in
+      let sm = sound-raised (tm .sheet) P t (s .sheet-ok) (s .message) m c lo hi ch (still-small m ch e n₂) n₂ ends k in
       record {
         sheet-ok = s .sheet-ok;
-        lies = record { there = omega arith; most = n₂; least = n₁ };
+        lies = raised-part .0;
         message = subst (λ (v : List ℕ). SoundMessage (tm .sheet) m (record { rows = t .rows; places = t .places; values = v })) (values-risen m ch e n₂) sm;
       }
 
-  -- with the group behind the old end
+  -- with the group behind the part's old end, and the user data behind the group
   module _ (g : List ℕ) (sg : Group g) (room : len + length g ≤ length buf) (most : len + length g ≤ mostBytes) where
+    abbrev user : List ℕ
+    user = userData P buf len
+
     abbrev b₂ : List ℕ
-    b₂ = bump P b₁ (countPlace P)
+    b₂ = lengthened (tm .layout .form) P (length g) b₁
 
     abbrev b₃ : List ℕ
-    b₃ = grown P b₁ g
+    b₃ = bump P b₂ (countPlace P)
+
+    abbrev b₄ : List ℕ
+    b₄ = grown (tm .layout .form) P user b₁ g
 
     abbrev P′ : Part
-    P′ = partOf b₃ (len + length g)
+    P′ = partIn (tm .layout) b₄ (len + length g)
 
-    fits₂ : countPlace P + 4 ≤ length b₁
-    fits₂ = omega (arith, length-raised, s .lies .least, s .lies .there)
+    start-in : startOf (tm .layout .form) ≤ length b₁
+    start-in = omega (arith, length-raised, s .lies .least, s .lies .within, s .lies .there)
 
     length-b₂ : length b₂ ≡ length buf
-    length-b₂ = length-store P b₁ (countPlace P) (parameterCount P + 1) fits₂ ∙ length-raised
+    length-b₂ = length-lengthened P (length g) b₁ (tm .layout .form) start-in ∙ length-raised
 
-    fits₃ : P .end + length g ≤ length b₂
-    fits₃ = omega (arith, length-b₂)
+    fits₃ : countPlace P + 4 ≤ length b₂
+    fits₃ = omega (arith, length-b₂, s .lies .least, s .lies .within, s .lies .there)
 
-    pub length-grown : length b₃ ≡ length buf
+    length-b₃ : length b₃ ≡ length buf
+    length-b₃ = length-store P b₂ (countPlace P) (parameterCount P + 1) fits₃ ∙ length-b₂
+
+    fits₄ : P .end + length (g ++ user) ≤ length b₃
+    fits₄ = omega (arith, length-b₃, behind-part (tm .layout) buf g len (s .lies))
+
+    pub length-grown : length b₄ ≡ length buf
     unfolding grown
-    length-grown = length-splice b₂ (P .end) g fits₃ ∙ length-b₂
+    length-grown = length-splice b₃ (P .end) (g ++ user) fits₄ ∙ length-b₃
 
-    -- below the old end only ParameterCount and the counter's Value differ
-    low₃ : (i : ℕ) → i < P .end → getD b₃ i 0 ≡ getD b₂ i 0
+    -- below the old end only StrucLength, ParameterCount and the counter's Value differ
+    low₄ : (i : ℕ) → i < P .end → getD b₄ i 0 ≡ getD b₃ i 0
     unfolding grown
-    low₃ i h = splice-before b₂ (P .end) g fits₃ i h
+    low₄ i h = splice-before b₃ (P .end) (g ++ user) fits₄ i h
 
-    same₂ : (i : ℕ) → ((countPlace P ≤ i) × (i < P .start + 36) → ⊥) → getD b₂ i 0 ≡ getD b₁ i 0
-    same₂ i h = store-same P b₁ (countPlace P) (parameterCount P + 1) fits₂ i (λ x. h (x .0, omega (arith, x .1)))
+    same₃ : (i : ℕ) → ((countPlace P ≤ i) × (i < P .start + 36) → ⊥) → getD b₃ i 0 ≡ getD b₂ i 0
+    same₃ i h = store-same P b₂ (countPlace P) (parameterCount P + 1) fits₃ i (λ x. h (x .0, omega (arith, x .1)))
+
+    same₂ : (i : ℕ) → P .start ≤ i → getD b₂ i 0 ≡ getD b₁ i 0
+    same₂ i h = lengthened-same P (length g) b₁ (tm .layout .form) start-in i h
 
     -- from it on stands the group
-    pub grown-group : (i : ℕ) → i < length g → getD b₃ (P .end + i) 0 ≡ getD g i 0
+    pub grown-group : (i : ℕ) → i < length g → getD b₄ (P .end + i) 0 ≡ getD g i 0
     unfolding grown
-    grown-group i h = splice-in b₂ (P .end) g fits₃ i h
+    grown-group i h = splice-in b₃ (P .end) (g ++ user) fits₄ i (omega (arith, length-append g user)) ∙ List·getD-append g user 0 i h
 
-    in-new : (i : ℕ) → i < len + length g → getD (P′ .bytes) i 0 ≡ getD b₃ i 0
-    in-new i h = getD-take (len + length g) b₃ i 0 h
+    -- the part is as much longer as the group
+    front₄ : (i : ℕ) → i < startOf (tm .layout .form) → getD b₄ i 0 ≡ getD b₂ i 0
+    front₄ i h = low₄ i (omega (arith, s .lies .least)) ∙ same₃ i (λ w. omega (arith, w .0))
+
+    pub grown-lies : Sized (tm .layout) b₄ (len + length g) × (P′ .end ≡ P .end + length g)
+    grown-lies =
+        grown-part (tm .layout) buf b₁ b₄ len (length g) (s .lies) (walks-four (sg .tree) refl) most (omega (arith, length-grown)) start-in (λ i h k. raised-front i h) (λ i h k. front₄ i h)
+
+    pub grown-embedding : embeddingOf (tm .layout .form) (partOf b₄ (len + length g)) ≡ embeddingOf (tm .layout .form) (partOf buf len)
+    grown-embedding =
+        let n = s .lies .there in
+        let k : startOf (tm .layout .form) ≤ len = omega (arith, s .lies .least, s .lies .within) in
+        sym (same-embedding (tm .layout .form) buf b₄ len (len + length g) k (omega arith) n (omega (arith, length-grown)) (λ i a b.
+        raised-front i b ∙ sym (lengthened-embedding P (length g) b₁ (tm .layout .form) start-in i a) ∙ sym (front₄ i b)))
+
+    in-new : (i : ℕ) → i < P .end + length g → getD (P′ .bytes) i 0 ≡ getD b₄ i 0
+    in-new i h = getD-take (P′ .end) b₄ i 0 (omega (arith, grown-lies .1))
 
     grown-match : Match (whole g) 0 P′ (P .end) (length g)
     grown-match = record {
@@ -213,32 +259,32 @@ module _ (tm : Terms) (buf : List ℕ) (len : ℕ) (t : Trace) (s : Sound tm buf
 
     -- which is one Activity group there
     pub appended-activity : OneActivity P′ (P .end) (map (shift (P .end)) (sg .rows))
-    appended-activity = activity-at P′ (P .end) g sg grown-match refl
+    appended-activity = activity-at P′ (P .end) g sg grown-match (grown-lies .1)
 
-    pub grown-sound : Sound tm b₃ (len + length g) (record { rows = t .rows ++ map (shift (P .end)) (sg .rows); places = t .places; values = risen (t .values) c })
+    pub grown-sound : Sound tm b₄ (len + length g) (record { rows = t .rows ++ map (shift (P .end)) (sg .rows); places = t .places; values = risen (t .values) c })
     unfolding valueAt
     grown-sound =
         let a = at-q .inside in
         let z = at-q .behind in
-        let n₀ = s .lies .there in
         let n₁ = s .lies .least in
-        let nb : length b₃ ≡ length buf = length-grown in
+        let ends = grown-lies .1 in
+        let n₂ : P′ .end ≤ mostBytes = omega (arith, s .lies .within) in
         let ch : Changed P P′ q =
         record {
           same-start = refl;
           grows = omega arith;
           bytes = λ i z₀ h x y.
-              getD-take len buf i 0 (omega arith) ∙ sym (low₃ i h ∙ same₂ i y ∙ raised-same i x) ∙ sym (in-new i (omega arith));
+              getD-take (P .end) buf i 0 h ∙ sym (low₄ i h ∙ same₃ i y ∙ same₂ i z₀ ∙ raised-same i x) ∙ sym (in-new i (omega arith));
         } in
         let e : num P′ (valuePlace q) ≡ value (t .values) c + 1 =
-        raised-value P′ (λ i x y. in-new i (omega arith) ∙ low₃ i (omega arith) ∙ same₂ i (λ w. omega (arith, w .1))) in
-        let n32 : parameterCount P + 1 < 4294967296 = omega (arith, count-le (tm .sheet) P t (s .sheet-ok) (s .message), s .lies .most) in
+        raised-value P′ (λ i x y. in-new i (omega arith) ∙ low₄ i (omega arith) ∙ same₃ i (λ w. omega (arith, w .1)) ∙ same₂ i (omega arith)) in
+        let n32 : parameterCount P + 1 < 4294967296 = omega (arith, count-le (tm .sheet) P t (s .sheet-ok) (s .message), s .lies .within, s .lies .most) in
         let k : parameterCount P′ ≡ parameterCount P + 1 =
-        num-store P b₁ (countPlace P) (parameterCount P + 1) fits₂ P′ n32 (λ i x y. in-new i (omega arith) ∙ low₃ i (omega arith)) in
-        let sm = sound-appended (tm .sheet) P t (s .sheet-ok) (s .message) P′ c lo hi ch (still-small P′ ch e most) most _ appended-activity k in
+        num-store P b₂ (countPlace P) (parameterCount P + 1) fits₃ P′ n32 (λ i x y. in-new i (omega arith) ∙ low₄ i (omega arith)) in
+        let sm = sound-appended (tm .sheet) P t (s .sheet-ok) (s .message) P′ c lo hi ch (still-small P′ ch e n₂) n₂ _ appended-activity k in
         record {
           sheet-ok = s .sheet-ok;
-          lies = record { there = omega arith; most = most; least = omega arith };
+          lies = grown-lies .0;
           message = subst (λ (v : List ℕ). SoundMessage (tm .sheet) P′ (record { rows = t .rows ++ map (shift (P .end)) (sg .rows); places = t .places; values = v }))
-              (values-risen P′ ch e most) sm;
+              (values-risen P′ ch e n₂) sm;
         }

@@ -14,8 +14,9 @@ use Rattle.meaning.specs.Answer.{accepted}
 use Rattle.meaning.specs.Structure.{Row, lengthRule, judge, structureAt}
 use Rattle.meaning.specs.Message.{field, headerOk, countOf, countsFrom}
 use Rattle.meaning.specs.Trace.{absent, identifiersOk, sheetOk, traceFields, traceHeader, untilTop, tops, groupsIn, groups, traceRoutes, directIn, directMembers, named, oneInteger, eachOnce, placeOfFirst, placesOf, valueAt, valuesAt, inRange}
-use Rattle.meaning.specs.Compose.{headerFields, traceHeaderFields, groupFields, integers, composedFields}
+use Rattle.meaning.specs.Compose.{headerFields, traceHeaderFields, groupFields, integers, composedFields, composed}
 use Rattle.meaning.proofs.Tests.{and-true, true-and}
+use Rattle.meaning.proofs.Numbers.{length-words}
 use Rattle.meaning.proofs.Walks.{Walks, none, more, walks-as}
 use Rattle.meaning.proofs.Attributes.{getD-map, absent-at, identifiers-parts, small-at}
 use Rattle.meaning.proofs.Sound.{SoundRows, SoundMessage}
@@ -154,6 +155,10 @@ sheet-length sheet ok = eqb-true (length sheet) 8 ((and-true (eqb (length sheet)
 pub length-fields : (sheet v : List ℕ) → sheetOk sheet ≡ true → length v ≡ 8 → length (composedFields sheet v) ≡ 45
 unfolding composedFields traceHeaderFields headerFields groupFields
 length-fields sheet v ok n8 = omega (arith, length-integers sheet v (sheet-length sheet ok ∙ sym n8), sheet-length sheet ok)
+
+pub length-composed : (sheet v : List ℕ) → sheetOk sheet ≡ true → length v ≡ 8 → length (composed sheet v) ≡ 180
+unfolding composed
+length-composed sheet v ok n8 = length-words (composedFields sheet v) ∙ omega (arith, length-fields sheet v ok n8)
 
 -- THE MESSAGE: a part that holds the words of a sheet and eight values of 32 bits
 module _ (sheet v : List ℕ) (ok : sheetOk sheet ≡ true) (n8 : length v ≡ 8) (fit : (j : ℕ) → j < 8 → getD v j 0 < 4294967296) where

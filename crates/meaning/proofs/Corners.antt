@@ -1,22 +1,18 @@
 -- CORNERS of the rules, computed: the errors that old forwarders made, and the points that are easily misread.
 -- One table, and one theorem that the definitions answer as it says.
-use mathlib.Core.Path.{_≡_, refl, sym, ap, _∙_}
+use mathlib.Core.Path.{_≡_, refl}
 use mathlib.Core.Bool.{true, false}
 use mathlib.Core.List.{List, [], _∷_, _++_, map}
-use Prim.Native.Nat.{ℕ, zero, suc, _+_, _≤_}
-use native.Mathlib.Omega.{arith}
-use lib.ListN.{length, getD, replicate}
-use Rattle.meaning.specs.Bytes.{words, whole, store}
+use Prim.Native.Nat.{ℕ, zero, suc, _+_}
+use lib.ListN.{length, replicate}
+use Rattle.meaning.specs.Bytes.{words}
 use Rattle.meaning.specs.Answer.{accepted, refused}
 use Rattle.meaning.specs.Trace.{read}
-use Rattle.meaning.specs.Compose.{compose}
 use Rattle.meaning.specs.Names.{RecordedActivities, UnrecordedActivities, «MQROUTE_DETAIL_LOW», «MQROUTE_DETAIL_MEDIUM», «MQROUTE_DETAIL_HIGH», «MQROUTE_ACCUMULATE_IN_MSG»}
-use Rattle.meaning.specs.Event.{Level, low, medium, high, Event, State, Done, discontinuity, activity, done, denied, event}
+use Rattle.meaning.specs.Event.{Level, low, medium, high, Event, State, Done, activity, done, denied, event}
 use Rattle.meaning.specs.Activity.{activityGroup, inMessage, substitute, nameOf, nameBytes}
-use Rattle.meaning.specs.Demand3.{soundTrace, limitOf, limitPlace, larger, Alike}
-use Rattle.meaning.proofs.Stores.{length-store, store-same}
 use Rattle.meaning.proofs.ReadsBack.{madeUp}
-use Rattle.meaning.proofs.Cases.{Told, checks, reads, answers, leaves, names, gives, decides, Case, case, checked, header, traceWith, counting, on, lentGroup, activityWith, rejected, forwarded, definitions}
+use Rattle.meaning.proofs.Cases.{Told, checks, reads, answers, leaves, names, gives, decides, Case, case, checked, valuesOf, composing, header, traceWith, counting, on, settings, broken, lentGroup, activityWith, rejected, forwarded, definitions}
 use Rattle.meaning.specs.Decision.{forward, putLocally, withhold, arrival}
 
 -- structures one behind the other
@@ -66,31 +62,31 @@ nestedAnd zero x = x
 nestedAnd (suc n) x = group 77 1 ++ nestedAnd n x
 
 abbrev readWhole : List ℕ → Told
-readWhole m = reads (read madeUp m (length m))
+readWhole m = reads (valuesOf (read madeUp m (length m)))
 
 -- a trace at its limit that asks for a reply
 abbrev replyState : State
 replyState = record {
-  buf = compose madeUp (2 ∷ 1 ∷ 1 ∷ 1 ∷ 3 ∷ 0x10005 ∷ 0x100 ∷ 0x1000 ∷ []) (replicate 180 0) .buffer;
+  buf = composing (2 ∷ 1 ∷ 1 ∷ 1 ∷ 3 ∷ 0x10005 ∷ 0x100 ∷ 0x1000 ∷ []) 180;
   len = 180;
   report = [];
 }
 
 -- a trace that fills its buffer: there is no room for a group
 abbrev fullBuffer : State
-fullBuffer = record { buf = compose madeUp (decoyValues 7) (replicate 180 0) .buffer; len = 180; report = [] }
+fullBuffer = record { buf = composing (decoyValues 7) 180; len = 180; report = [] }
 
 -- a trace of this Detail that accumulates, and an activity of this level whose report is asked for, both settings on
 abbrev detailed : ℕ → State
 detailed detail = record {
-  buf = compose madeUp (detail ∷ 0 ∷ 0 ∷ 0 ∷ 0 ∷ «MQROUTE_ACCUMULATE_IN_MSG» ∷ 0x100 ∷ 0x1000 ∷ []) (replicate 260 0) .buffer;
+  buf = composing (detail ∷ 0 ∷ 0 ∷ 0 ∷ 0 ∷ «MQROUTE_ACCUMULATE_IN_MSG» ∷ 0x100 ∷ 0x1000 ∷ []) 260;
   len = 180;
   report = replicate 80 0;
 }
 
 abbrev atLevel : Level → Event
 atLevel level =
-    activity (record { level = level; group = lentGroup; reportsAsked = true }) (record { activityRecording = true; traceRouteMessaging = true })
+    activity (record { level = level; group = lentGroup; reportsAsked = true }) (settings true)
 
 -- recorded, it is appended and reported; unrecorded, neither
 abbrev recorded : Done
@@ -119,19 +115,19 @@ pub corners : List Case
 corners =
     -- a counter is a direct member of the TraceRoute group, not one of another group
     case (readWhole decoys) (reads (accepted (decoyValues 7)))
-    ∷ case (readWhole (event madeUp decoyState (activityWith true) .next .buf)) (reads (refused 5 344))
-    ∷ case (reads (read madeUp (event madeUp decoyState (activityWith true) .next .buf) 344)) (reads (accepted (decoyValues 8)))
+    ∷ case (readWhole (event (madeUp .sheet) decoyState (activityWith true) .next .buf)) (reads (refused 5 344))
+    ∷ case (reads (valuesOf (read madeUp (event (madeUp .sheet) decoyState (activityWith true) .next .buf) 344))) (reads (accepted (decoyValues 8)))
     -- the sheet's identifier on another type, or twice, is a fault
     ∷ case (readWhole (withMember (integer 1301 5))) (reads (accepted (decoyValues 7)))
     ∷ case (readWhole (withMember (integer 1201 2))) (reads (refused 8 0))
     ∷ case (readWhole (withMember (group 1208 0))) (reads (refused 8 0))
     -- the sum is a whole number, of all three counters
-    ∷ case (on (counting 2147483647 2147483647 2 5) discontinuity) (rejected 10)
-    ∷ case (on (counting 0 0 5 5) discontinuity) (rejected 10)
+    ∷ case (on (counting 2147483647 2147483647 2 5) broken) (rejected 10)
+    ∷ case (on (counting 0 0 5 5) broken) (rejected 10)
     -- at the limit a reply is owed exactly if Accumulate is 0x10005
-    ∷ case (answers (event madeUp replyState discontinuity .answer)) (answers (denied 10 0 true))
+    ∷ case (answers (event (madeUp .sheet) replyState broken .answer)) (answers (denied 10 0 true))
     -- where there is no room nothing changes
-    ∷ case (leaves (event madeUp fullBuffer (activityWith true))) (leaves (record { answer = denied 12 0 false; next = fullBuffer }))
+    ∷ case (leaves (event (madeUp .sheet) fullBuffer (activityWith true))) (leaves (record { answer = denied 12 0 false; next = fullBuffer }))
     -- 3 before 4: a group of depth 9 with a wrong StrucLength
     ∷ case (checked (header 1 ++ nestedAnd 8 (words (20 ∷ 20 ∷ 1 ∷ 0 ∷ 0 ∷ [])))) (checks (refused 3 164))
     -- an integer may stand at depth 9
@@ -155,7 +151,7 @@ corners =
     ∷ case (decides (arrival madeUp (traceWith 0 0 0 0 0x100 0x2000) 180)) (decides (accepted withhold))
     ∷ case (decides (arrival madeUp (traceWith 0 0 0 0 0x100 0x12000) 180)) (decides (refused 14 0))
     -- exactly one of the two bits: Compose refuses both, and then writes nothing
-    ∷ case (reads (read madeUp (traceWith 0 0 0 0 0x300 0x1000) 180)) (reads (refused 2 0))
+    ∷ case (reads (valuesOf (read madeUp (traceWith 0 0 0 0 0x300 0x1000) 180))) (reads (refused 2 0))
     -- a name is the first direct string with the identifier; the structure's padding is no part of it
     ∷ case (names (nameOf madeUp decoys (length decoys) 0 77)) (names (inMessage (record { place = 104; length = 3 })))
     ∷ case (names (nameOf madeUp decoys (length decoys) 0 78)) (names substitute)
@@ -197,33 +193,3 @@ corners =
 pub corner-cases : map (λ (c : Case). c .said) corners ≡ map (λ (c : Case). c .expected) corners
 unfolding definitions corners
 corner-cases = refl
-
--- TRACES AS DEMAND 3 TAKES THEM are there: two sound ones that differ in their limits, 5 and none, and in nothing else
-abbrev limited : State
-limited = counting 2 1 1 5
-
-abbrev unlimited : State
-unlimited = counting 2 1 1 0
-
--- the second is the first with another number where the limit stands
-apart : unlimited .buf ≡ store (whole (limited .buf)) (limited .buf) (limitPlace madeUp limited) 0
-unfolding definitions limitPlace
-apart = refl
-
-limit-fits : limitPlace madeUp limited + 4 ≤ length (limited .buf)
-unfolding definitions limitPlace
-limit-fits = omega arith
-
-alike : Alike (limitPlace madeUp limited) limited unlimited
-alike = record {
-  same-len = refl;
-  same-room = sym (ap length apart ∙ length-store (whole (limited .buf)) (limited .buf) (limitPlace madeUp limited) 0 limit-fits);
-  same-report = refl;
-  same-bytes = λ i h k. sym (ap (λ (b : List ℕ). getD b i 0) apart ∙ store-same (whole (limited .buf)) (limited .buf) (limitPlace madeUp limited) 0 limit-fits i k);
-}
-
--- all that demand3 asks for, of these two
-pub demand3-met : (soundTrace madeUp limited ≡ true) × (soundTrace madeUp unlimited ≡ true) × Alike (limitPlace madeUp limited) limited unlimited
-    × (larger (limitOf madeUp limited) (limitOf madeUp unlimited) ≡ true)
-unfolding definitions soundTrace limitOf larger
-demand3-met = (refl, refl, alike, refl)

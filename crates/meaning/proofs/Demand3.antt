@@ -12,14 +12,14 @@ use borrow.Author.Tests.{eqb-true, eqb-false}
 use Rattle.meaning.specs.Names.{MaxActivities}
 use Rattle.meaning.specs.Answer.{Result, accepted, refused, unless}
 use Rattle.meaning.specs.Trace.{Terms, Trace, value, valuePlace, readTrace}
-use Rattle.meaning.specs.Event.{State, Event, discontinuity, Answer, done, denied, soundEvent, groupOf, planOf, counterSum, overLimit, decided, performed, leaving, onTrace, event}
+use Rattle.meaning.specs.Event.{State, Event, Answer, done, denied, Outcome, soundEvent, groupOf, planOf, counterSum, overLimit, decided, performed, leaving, onTrace, eventOn, event}
 use Rattle.meaning.specs.View.{View, viewOf, risen, viewAfter, Seen, seeing, verdict, seen}
-use Rattle.meaning.specs.Demand3.{isAccepted, soundTrace, sumOf, limitOf, limitPlace, larger, Alike, stateAfter, eventAt, stateAt, answerAt, isDone, isLimit, acceptedIn, due, Kept, Demand3}
+use Rattle.meaning.specs.Demand3.{isAccepted, soundTrace, sumOf, limitOf, limitPlace, larger, Alike, stateAfter, noEvent, eventAt, AllName, stateAt, answerAt, isDone, isLimit, acceptedIn, due, Kept, Demand3}
 use Rattle.meaning.proofs.Tests.{clash, and-true}
 use Rattle.meaning.proofs.Sound.{sound}
 use Rattle.meaning.proofs.Changed.{length-values}
 use Rattle.meaning.proofs.Plans.{plan-ok, decide-limit, over-denied}
-use Rattle.meaning.proofs.Views.{event-seen}
+use Rattle.meaning.proofs.Views.{event-on, event-seen}
 use Rattle.meaning.proofs.Twins.{limitAt, Both, event-both}
 
 -- ONE EVENT, as seen: the sum rises by one exactly if it is accepted, and the limit stays
@@ -78,32 +78,32 @@ leaving-same : (st st′ : State) (a : Answer) → isDone a ≡ false → leavin
 leaving-same st st′ (done d) e = absurd (clash (cc))
 leaving-same st st′ (denied n p owed) e = refl
 
-over-still : (tm : Terms) (st : State) (e : Event) (t : Trace) → readTrace tm (st .buf) (st .len) ≡ accepted t → overLimit (t .values) ≡ true → event tm st e .next ≡ st
-unfolding event onTrace
+over-still : (tm : Terms) (st : State) (e : Event) (t : Trace) → readTrace tm (st .buf) (st .len) ≡ accepted t → overLimit (t .values) ≡ true → eventOn tm st e .next ≡ st
+unfolding eventOn onTrace
 over-still tm st e t r o = rw r (go (soundEvent e))
   where
     go : (b : Bool) → unless b (record { answer = denied 9 0 false; next = st })
-        (leaving st (performed st e t) (decided st e (t .values))) .next ≡ st
-    go true = leaving-same st (performed st e t) (decided st e (t .values)) (over-denied (t .values) (planOf (t .values) e) (length (groupOf e)) (st .len) (length (st .buf)) (length (st .report)) o)
+        (leaving st (performed (tm .layout) st e t) (decided st e (t .values))) .next ≡ st
+    go true = leaving-same st (performed (tm .layout) st e t) (decided st e (t .values)) (over-denied (t .values) (planOf (t .values) e) (length (groupOf e)) (st .len) (length (st .buf)) (length (st .report)) o)
     go false = refl
 
 -- THE STATES along the list
-after-snoc : (tm : Terms) (st : State) (es : List Event) (e : Event) → stateAfter tm st (es ++ (e ∷ [])) ≡ event tm (stateAfter tm st es) e .next
+after-snoc : (tm : Terms) (st : State) (es : List Event) (e : Event) → stateAfter tm st (es ++ (e ∷ [])) ≡ event (tm .sheet) (stateAfter tm st es) e .next
 unfolding stateAfter
 after-snoc tm st [] e = refl
-after-snoc tm st (x ∷ xs) e = after-snoc tm (event tm st x .next) xs e
+after-snoc tm st (x ∷ xs) e = after-snoc tm (event (tm .sheet) st x .next) xs e
 
 pub state-zero : (tm : Terms) (st : State) (evs : List Event) → stateAt tm st evs 0 ≡ st
 unfolding stateAt stateAfter
 state-zero tm st evs = refl
 
 pub state-suc : (tm : Terms) (st : State) (evs : List Event) (n : ℕ) → n < length evs
-    → stateAt tm st evs (suc n) ≡ event tm (stateAt tm st evs n) (eventAt evs n) .next
+    → stateAt tm st evs (suc n) ≡ event (tm .sheet) (stateAt tm st evs n) (eventAt evs n) .next
 unfolding stateAt
-state-suc tm st evs n h = ap (stateAfter tm st) (take-suc evs n discontinuity h) ∙ after-snoc tm st (take n evs) (eventAt evs n)
+state-suc tm st evs n h = ap (stateAfter tm st) (take-suc evs n noEvent h) ∙ after-snoc tm st (take n evs) (eventAt evs n)
 
 -- ONE TRACE along the list
-module _ (tm : Terms) (x : State) (evs : List Event) (t : Trace) (r : readTrace tm (x .buf) (x .len) ≡ accepted t) where
+module _ (tm : Terms) (x : State) (evs : List Event) (name : AllName (tm .layout) evs) (t : Trace) (r : readTrace tm (x .buf) (x .len) ≡ accepted t) where
   pub record Held (n : ℕ) : Type 0 where
     pub trace : Trace
     pub good : readTrace tm (stateAt tm x evs n .buf) (stateAt tm x evs n .len) ≡ accepted trace
@@ -119,7 +119,7 @@ module _ (tm : Terms) (x : State) (evs : List Event) (t : Trace) (r : readTrace 
   unfolding acceptedIn answerAt
   held-suc n h k =
       let st : State = stateAt tm x evs n in
-      let f = event-seen tm st (eventAt evs n) (k .trace) (k .good) in
+      let f = event-seen tm st (eventAt evs n) (k .trace) (k .good) (name n h) in
       let s = sound tm (st .buf) (st .len) (k .trace) (k .good) in
       let c = counted (viewOf (k .trace .values) st) (eventAt evs n) (length-values (tm .sheet) _ (k .trace) (s .sheet-ok) (s .message)) in
       let v : f .trace .values ≡ seen (viewOf (k .trace .values) st) (eventAt evs n) .next .values = ap (λ (w : View). w .values) (f .one-view) in
@@ -137,20 +137,20 @@ module _ (tm : Terms) (x : State) (evs : List Event) (t : Trace) (r : readTrace 
   held zero h = held-zero
   held (suc n) h = held-suc n h (held n (omega arith))
 
-  limit-when : (n : ℕ) (k : Held n) → isLimit (answerAt tm x evs n) ≡ soundEvent (eventAt evs n) && overLimit (k .trace .values)
+  limit-when : (n : ℕ) → n < length evs → (k : Held n) → isLimit (answerAt tm x evs n) ≡ soundEvent (eventAt evs n) && overLimit (k .trace .values)
   unfolding answerAt
-  limit-when n k =
+  limit-when n h k =
       let st : State = stateAt tm x evs n in
-      ap isLimit (event-seen tm st (eventAt evs n) (k .trace) (k .good) .one-answer) ∙ seen-limit (viewOf (k .trace .values) st) (eventAt evs n)
+      ap isLimit (event-seen tm st (eventAt evs n) (k .trace) (k .good) (name n h) .one-answer) ∙ seen-limit (viewOf (k .trace .values) st) (eventAt evs n)
 
   exactly : (n : ℕ) → n < length evs → isLimit (answerAt tm x evs n) ≡ due tm (stateAt tm x evs n) (eventAt evs n)
   unfolding due limitOf sumOf overLimit
   exactly n h =
       let k = held n (omega arith) in
-      limit-when n k ∙ rw (k .good) refl
+      limit-when n h k ∙ rw (k .good) refl
 
-  over : (n : ℕ) (k : Held n) → isLimit (answerAt tm x evs n) ≡ true → overLimit (k .trace .values) ≡ true
-  over n k e = (and-true (soundEvent (eventAt evs n)) (overLimit (k .trace .values)) (sym (limit-when n k) ∙ e)) .1
+  over : (n : ℕ) → n < length evs → (k : Held n) → isLimit (answerAt tm x evs n) ≡ true → overLimit (k .trace .values) ≡ true
+  over n h k e = (and-true (soundEvent (eventAt evs n)) (overLimit (k .trace .values)) (sym (limit-when n h k) ∙ e)) .1
 
   still : (n k : ℕ) → n ≤ k → k ≤ length evs → n < length evs → isLimit (answerAt tm x evs n) ≡ true → stateAt tm x evs k ≡ stateAt tm x evs n
   still n zero a b c e =
@@ -165,7 +165,8 @@ module _ (tm : Terms) (x : State) (evs : List Event) (t : Trace) (r : readTrace 
           let i = ih (omega arith) in
           let w = held n (omega arith) in
           let g : readTrace tm (stateAt tm x evs k .buf) (stateAt tm x evs k .len) ≡ accepted (w .trace) = rw i (w .good) in
-          state-suc tm x evs k b ∙ over-still tm (stateAt tm x evs k) (eventAt evs k) (w .trace) g (over n w e) ∙ i
+          state-suc tm x evs k b ∙ ap (λ (o : Outcome). o .next) (event-on tm (stateAt tm x evs k) (eventAt evs k) (name k b))
+          ∙ over-still tm (stateAt tm x evs k) (eventAt evs k) (w .trace) g (over n c w e) ∙ i
 
   pub kept : Kept tm x evs
   unfolding sumOf limitOf limitPlace soundTrace
@@ -179,19 +180,22 @@ module _ (tm : Terms) (x : State) (evs : List Event) (t : Trace) (r : readTrace 
   }
 
 -- BOTH TRACES along the list
-module _ (tm : Terms) (x y : State) (evs : List Event) (t u : Trace) (rx : readTrace tm (x .buf) (x .len) ≡ accepted t)
+module _ (tm : Terms) (x y : State) (evs : List Event) (name : AllName (tm .layout) evs) (t u : Trace) (rx : readTrace tm (x .buf) (x .len) ≡ accepted t)
     (ry : readTrace tm (y .buf) (y .len) ≡ accepted u) (a : Alike (limitAt t) x y)
     (l : larger (value (t .values) MaxActivities) (value (u .values) MaxActivities) ≡ true) where
   step : (n : ℕ) → n < length evs → Alike (limitAt t) (stateAt tm x evs n) (stateAt tm y evs n) → isLimit (answerAt tm x evs n) ≡ false
-      → Both (limitAt t) (event tm (stateAt tm x evs n) (eventAt evs n)) (event tm (stateAt tm y evs n) (eventAt evs n))
+      → Both (limitAt t) (event (tm .sheet) (stateAt tm x evs n) (eventAt evs n)) (event (tm .sheet) (stateAt tm y evs n) (eventAt evs n))
   unfolding answerAt
   step n h s e =
-      let k = held tm x evs t rx n (omega arith) in
-      let m = held tm y evs u ry n (omega arith) in
+      let k = held tm x evs name t rx n (omega arith) in
+      let m = held tm y evs name u ry n (omega arith) in
+      let ox = event-on tm (stateAt tm x evs n) (eventAt evs n) (name n h) in
+      let oy = event-on tm (stateAt tm y evs n) (eventAt evs n) (name n h) in
       let q : limitAt (k .trace) ≡ limitAt t = ap (λ (p : List ℕ). valuePlace (value p MaxActivities)) (k .places) in
-      subst (λ (z : ℕ). Both z (event tm (stateAt tm x evs n) (eventAt evs n)) (event tm (stateAt tm y evs n) (eventAt evs n))) q
+      rw (ox, oy)
+      (subst (λ (z : ℕ). Both z (eventOn tm (stateAt tm x evs n) (eventAt evs n)) (eventOn tm (stateAt tm y evs n) (eventAt evs n))) q
       (event-both tm (stateAt tm x evs n) (stateAt tm y evs n) (eventAt evs n) (k .trace) (m .trace) (k .good) (m .good)
-      (subst (λ (z : ℕ). Alike z (stateAt tm x evs n) (stateAt tm y evs n)) (sym q) s) (rw (k .limit, m .limit) l) e)
+      (subst (λ (z : ℕ). Alike z (stateAt tm x evs n) (stateAt tm y evs n)) (sym q) s) (rw (k .limit, m .limit) l) (ap (λ (o : Outcome). isLimit (o .answer)) (sym ox) ∙ e)))
 
   states : (n : ℕ) → n ≤ length evs → ((k : ℕ) → k < n → isLimit (answerAt tm x evs k) ≡ false)
       → Alike (limitAt t) (stateAt tm x evs n) (stateAt tm y evs n)
@@ -209,8 +213,8 @@ module _ (tm : Terms) (x y : State) (evs : List Event) (t u : Trace) (rx : readT
   all = record {
     same-answers = answers;
     same-states = λ n h f. rw rx (states n h f);
-    first = kept tm x evs t rx;
-    second = kept tm y evs u ry;
+    first = kept tm x evs name t rx;
+    second = kept tm y evs name u ry;
   }
 
 -- a sound trace is read
@@ -218,11 +222,12 @@ pub read-sound : (r : Result Trace) → isAccepted r ≡ true → (t : Trace) ×
 read-sound (accepted t) e = (t, refl)
 read-sound (refused n p) e = absurd (clash (cc))
 
--- DEMAND 3: for two sound traces alike but for MaxActivities, the second limit larger, and every list of events
+-- DEMAND 3: for two sound traces alike but for MaxActivities, the second limit larger, and every list of events that name the
+-- traces' layout
 pub demand3 : (tm : Terms) (x y : State) → soundTrace tm x ≡ true → soundTrace tm y ≡ true → Alike (limitPlace tm x) x y
-    → larger (limitOf tm x) (limitOf tm y) ≡ true → (evs : List Event) → Demand3 tm x y evs
+    → larger (limitOf tm x) (limitOf tm y) ≡ true → (evs : List Event) → AllName (tm .layout) evs → Demand3 tm x y evs
 unfolding soundTrace limitPlace limitOf
-demand3 tm x y sx sy a l evs =
+demand3 tm x y sx sy a l evs name =
     let t = read-sound (readTrace tm (x .buf) (x .len)) sx in
     let u = read-sound (readTrace tm (y .buf) (y .len)) sy in
-    all tm x y evs (t .0) (u .0) (t .1) (u .1) (rw (t .1) at a) (rw (t .1, u .1) at l)
+    all tm x y evs name (t .0) (u .0) (t .1) (u .1) (rw (t .1) at a) (rw (t .1, u .1) at l)

@@ -1,14 +1,16 @@
 -- The walk's fuel never shows: any fuel that is at least the number of bytes left gives the same walk, refused ones too.
--- So the walk of a part keeps two plain equations, by which code follows it.
+-- So the walk of a part keeps two plain equations, by which code follows it. And a walk looks at nothing in front of its place,
+-- nor at where the part starts.
 use mathlib.Core.Path.{_≡_, refl, ap, _∙_}
 use mathlib.Core.List.{List, [], _++_}
 use Prim.Native.Nat.{ℕ, zero, suc, _+_, _≤_}
 use native.Mathlib.Omega.{arith}
-use Rattle.meaning.specs.Bytes.{Part}
+use lib.ListN.{getD}
+use Rattle.meaning.specs.Bytes.{Part, num, word}
 use Rattle.meaning.specs.Answer.{Result, accepted, refused, andThen}
 use Rattle.meaning.specs.Structure.{Row, structureAt}
 use Rattle.meaning.specs.Walk.{Walked, walked, followedBy, ahead, enter, walkFuel, walk}
-use Rattle.meaning.proofs.Structures.{row-at, structure-short}
+use Rattle.meaning.proofs.Structures.{row-at, structure-short, num-same}
 use Rattle.meaning.proofs.Walks.{walks-fuel, walks-le}
 
 -- the fuel falls by one at each call
@@ -59,3 +61,56 @@ pub walk-suc : (s : Part) (p d n : ℕ)
 unfolding walk walkFuel
 walk-suc s p d n =
     fuel (s .end) (suc (s .end)) s p d (suc n) (omega arith) (omega arith)
+
+-- A WALK LOOKS AT NOTHING IN FRONT OF ITS PLACE, and not at where the part starts: only the header's fields are counted from there
+module _ (s s′ : Part) (lo : ℕ) (ends : s .end ≡ s′ .end) (same : (i : ℕ) → lo ≤ i → getD (s .bytes) i 0 ≡ getD (s′ .bytes) i 0) where
+  num-behind : (at : ℕ) → lo ≤ at → num s at ≡ num s′ at
+  num-behind at h = num-same s s′ at (λ i a b. same i (omega arith))
+
+  structure-behind : (p d : ℕ) → lo ≤ p → structureAt s p d ≡ structureAt s′ p d
+  unfolding structureAt word
+  structure-behind p d h =
+      rw (
+        ends,
+        num-behind p h,
+        num-behind (p + 4) (omega arith),
+        num-behind (p + 8) (omega arith),
+        num-behind (p + 12) (omega arith),
+        num-behind (p + 16) (omega arith),
+        num-behind (p + 20) (omega arith),
+      ) refl
+
+  behind-step : (f p d c : ℕ) → lo ≤ p → ((p d c : ℕ) → lo ≤ p → walkFuel f s p d c ≡ walkFuel f s′ p d c) → (t : Result Row)
+      → enter t (λ r. walkFuel f s (p + r .size) (suc d) (r .members)) (λ q. walkFuel f s q d c)
+      ≡ enter t (λ r. walkFuel f s′ (p + r .size) (suc d) (r .members)) (λ q. walkFuel f s′ q d c)
+  behind-step f p d c h ih (accepted r) =
+      ap (ahead r) (ap (λ (w : Result Walked). followedBy w (λ q. walkFuel f s q d c)) (ih (p + r .size) (suc d) (r .members) (omega arith))
+      ∙ rest (walkFuel f s′ (p + r .size) (suc d) (r .members)) (λ rs q e. omega (arith, walks-le (walks-fuel f s′ (p + r .size) (suc d) (r .members) rs q e))))
+    where
+      rest : (w : Result Walked) → ((rs : List Row) (q : ℕ) → w ≡ walked rs q → p + r .size ≤ q)
+          → followedBy w (λ q. walkFuel f s q d c) ≡ followedBy w (λ q. walkFuel f s′ q d c)
+      rest (accepted x) k =
+          ap (λ (v : Result Walked). andThen v (λ y. walked (x .rows ++ y .rows) (y .next))) (ih (x .next) d c (omega (arith, k (x .rows) (x .next) refl)))
+      rest (refused k q) l = refl
+  behind-step f p d c h ih (refused k q) = refl
+
+  fuel-behind : (f p d c : ℕ) → lo ≤ p → walkFuel f s p d c ≡ walkFuel f s′ p d c
+  unfolding walkFuel
+  fuel-behind zero p d zero h = refl
+  fuel-behind zero p d (suc c) h = refl
+  fuel-behind (suc f) p d zero h = refl
+  fuel-behind (suc f) p d (suc c) h =
+      rw (structure-behind p d h) (behind-step f p d c h (λ p d c k. fuel-behind f p d c k) (structureAt s′ p d))
+
+  pub walk-behind : (p d c : ℕ) → lo ≤ p → walk s p d c ≡ walk s′ p d c
+  unfolding walk
+  walk-behind p d c h = ap (λ (f : ℕ). walkFuel f s p d c) ends ∙ fuel-behind (s′ .end) p d c h
+
+abbrev pub from : ℕ → Part → Part
+from n s = record { bytes = s .bytes; start = n; end = s .end }
+
+pub structure-from : (n : ℕ) (s : Part) (p d : ℕ) → structureAt (from n s) p d ≡ structureAt s p d
+structure-from n s p d = structure-behind (from n s) s 0 refl (λ i h. refl) p d (omega arith)
+
+pub walk-from : (n : ℕ) (s : Part) (p d c : ℕ) → walk (from n s) p d c ≡ walk s p d c
+walk-from n s p d c = walk-behind (from n s) s 0 refl (λ i h. refl) p d c (omega arith)

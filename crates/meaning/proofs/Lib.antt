@@ -17,9 +17,11 @@ pub mod Tests
 pub mod Structures
 -- the numbers of a message are those of the lent buffer
 pub mod Parts
+-- where the part of a message lies, in either form
+pub mod Layouts
 -- a walk that is accepted, as a derivation, with its rows
 pub mod Walks
--- the walk's fuel never shows
+-- the walk's fuel never shows; a walk looks at nothing in front of its place
 pub mod Fuel
 -- a walk stays when a Value is rewritten or the part grows
 pub mod Kept
@@ -27,12 +29,12 @@ pub mod Kept
 pub mod Tallies
 -- top-level structures and direct members, one after the other
 pub mod Tops
--- what check, tally and listing accept
-pub mod Scans
 -- refused walks, and where they stop
 pub mod Outcomes
 -- the lines of a listing fit
 pub mod Lines
+-- THEOREM scan-ignores
+pub mod Ignored
 -- THEOREM rows-tile
 pub mod Tiling
 -- Traces: what Read accepts, and Compose
@@ -73,5 +75,9 @@ pub mod Trimmed
 -- Worked examples
 -- THEOREMS p-cases, command-event
 pub mod Cases
--- THEOREMS corner-cases, demand3-met
+-- THEOREM corner-cases
 pub mod Corners
+-- THEOREM embedded-cases
+pub mod LayoutCases
+-- THEOREM demand3-met
+pub mod Demand3Met

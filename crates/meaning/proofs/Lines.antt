@@ -77,7 +77,7 @@ lines-short {s} (more {p} {d} {n} {p₁} {q} {r} {rs₁} {rs₂} t w₁ w₂) h 
     inside (suc m) e go = go (omega (arith, members-shallow s p d r t (omega arith)))
     inside zero e go = let z = walks-none w₁ e in rw (z .0, z .1, rowLines-none) (omega arith)
 
--- the whole listing of a walk from 36 on
+-- the whole listing of a walk behind a header
 length-headerLine : (m : Part) (len : ℕ) → length (headerLine m len) ≤ 48
 unfolding headerLine
 length-headerLine m len =
@@ -92,7 +92,7 @@ pub refusalLine-most : (n p : ℕ) → length (refusalLine n p) ≤ 30
 unfolding refusalLine
 refusalLine-most n p = simp length-append (omega (arith, column-ten n blank, column-ten p newline))
 
-pub listing-most : (m : Part) (len n : ℕ) (rows : List Row) (q : ℕ) → Walks m 36 1 n rows q → q ≤ 65536 → length (listingText m len rows) ≤ 131072
+pub listing-most : (m : Part) (len p n : ℕ) (rows : List Row) (q : ℕ) → 36 ≤ p → Walks m p 1 n rows q → q ≤ 65536 → length (listingText m len rows) ≤ 131072
 unfolding listingText
-listing-most m len n rows q w h =
+listing-most m len p n rows q k w h =
     simp length-append (omega (arith, length-headerLine m len, lines-short w (omega arith) h, length-endLine (length rows)))

@@ -1,5 +1,5 @@
 -- How a scan or a read ends: the rows that a check has counted, and that a refusal's place lies in the message.
-use mathlib.Core.Path.{sym, _≡_, refl, _∙_}
+use mathlib.Core.Path.{sym, _≡_, refl, ap, _∙_}
 use mathlib.Core.Bool.{Bool, true, false, _&&_}
 use mathlib.Core.Logic.{_⊎_, inl, inr}
 use mathlib.Core.List.{List, _++_}
@@ -7,22 +7,24 @@ use Prim.Native.Nat.{ℕ, zero, suc, _+_, _%_, _≤_}
 use native.Mathlib.Omega.{arith}
 use lib.ListN.{length}
 use lib.Dec.{leb, eqb, ltb}
-use Rattle.meaning.specs.Bytes.{Part}
+use Rattle.meaning.specs.Bytes.{Part, partOf}
 use Rattle.meaning.specs.Answer.{Result, accepted, refused, andThen, unless}
 use Rattle.meaning.specs.Structure.{Row, lengthRule, rowAt, judged, judge, structureAt}
 use Rattle.meaning.specs.Walk.{Walked, walked, followedBy, ahead, enter, walkFuel, walk}
-use Rattle.meaning.specs.Message.{headerOk, lengthOk, partOf, parameterCount, firstPlace, closed, rowsOf, scan, check}
+use Rattle.meaning.specs.Layout.{Layout, partIn, lengthOk, located, embeddedOk}
+use Rattle.meaning.specs.Message.{headerOk, parameterCount, firstPlace, closed, rowsOf, scan, check}
 use Rattle.meaning.specs.Trace.{Terms, sheetOk, traceHeader, traceRoutes, directMembers, eachOnce, placesOf, valuesAt, inRange, readMembers, readRows, readTrace}
 use Rattle.meaning.proofs.Tests.{clash, then-accepted}
 use Rattle.meaning.proofs.Structures.{row-at}
 use Rattle.meaning.proofs.Walks.{walks-fuel}
-use Rattle.meaning.proofs.Scans.{sized}
+use Rattle.meaning.proofs.Layouts.{sized}
 use Rattle.meaning.proofs.Lines.{walks-end}
 
 -- the number of structures that the check gives
-pub check-accepted : (buf : List ℕ) (len n : ℕ) → check buf len ≡ accepted n → (rows : List Row) × (scan buf len ≡ accepted rows) × (length rows ≡ n)
+pub check-accepted : (l : Layout) (buf : List ℕ) (len n : ℕ) → check l buf len ≡ accepted n
+    → (rows : List Row) × (scan l buf len ≡ accepted rows) × (length rows ≡ n)
 unfolding check
-check-accepted buf len n e = let a = then-accepted (scan buf len) _ n e in (a .0, a .1, cc (a .2))
+check-accepted l buf len n e = let a = then-accepted (scan l buf len) _ n e in (a .0, a .1, cc (a .2))
 
 -- REFUSALS
 then-refused : {A B : Type 0} (r : Result A) (go : A → Result B) (n p : ℕ) → andThen r go ≡ refused n p
@@ -30,11 +32,12 @@ then-refused : {A B : Type 0} (r : Result A) (go : A → Result B) (n p : ℕ) �
 then-refused (accepted x) go n p e = inr (x, refl, e)
 then-refused (refused k q) go n p e = inl (cc)
 
-pub check-refused : (buf : List ℕ) (len n p : ℕ) → check buf len ≡ refused n p → scan buf len ≡ refused n p
+pub check-refused : (l : Layout) (buf : List ℕ) (len n p : ℕ) → check l buf len ≡ refused n p → scan l buf len ≡ refused n p
 unfolding check
-check-refused buf len n p e = go (then-refused (scan buf len) _ n p e)
+check-refused l buf len n p e = go (then-refused (scan l buf len) _ n p e)
   where
-    go : (scan buf len ≡ refused n p) ⊎ ((x : List Row) × (scan buf len ≡ accepted x) × (_≡_ {A = Result ℕ} (accepted (length x)) (refused n p))) → scan buf len ≡ refused n p
+    go : (scan l buf len ≡ refused n p) ⊎ ((x : List Row) × (scan l buf len ≡ accepted x) × (_≡_ {A = Result ℕ} (accepted (length x)) (refused n p)))
+        → scan l buf len ≡ refused n p
     go (inl h) = h
     go (inr h) = absurd (clash (cc (h .2)))
 
@@ -121,23 +124,40 @@ rows-refused m n q h e = header (headerOk m) e
     header false e = let y : n ≡ 2 = cc in let z : q ≡ 0 = cc in record { number = omega arith; place = omega arith }
     header true e = part (then-refused (walkFuel (m .end) m (firstPlace m) 1 (parameterCount m)) (closed (m .end)) n q e)
 
-pub scan-refused : (buf : List ℕ) (len n q : ℕ) → scan buf len ≡ refused n q → Faulty 65536 n q
-unfolding scan
-scan-refused buf len n q e = go (lengthOk buf len) refl e
-  where
-    go : (b : Bool) → lengthOk buf len ≡ b → unless b (refused 1 0) (rowsOf (partOf buf len)) ≡ refused n q → Faulty 65536 n q
-    go false f e = let y : n ≡ 1 = cc in let z : q ≡ 0 = cc in record { number = omega arith; place = omega arith }
-    go true f e =
-        let l = sized buf len f in
-        let g = rows-refused (partOf buf len) n q (l .least) e in
-        record { number = g .number; place = omega (arith, l .most, g .place) }
-
--- Read refuses with 1 to 8 or 17, never with the limit's number
 unless-refused : {A : Type 0} (b : Bool) (k : ℕ) (r : Result A) (n q : ℕ) → unless b (refused k 0) r ≡ refused n q
     → ((n ≡ k) × (q ≡ 0)) ⊎ (r ≡ refused n q)
 unless-refused true k r n q e = inr e
 unless-refused false k r n q e = inl (cc, cc)
 
+-- a refusal's number is one of a message's, 1 to 5 or 18, and its place is in the longest message
+pub record Rejected (n q : ℕ) : Type 0 where
+  pub number : (n ≤ 5) ⊎ (n ≡ 18)
+  pub place : q ≤ 65536
+
+located-refused : (l : Layout) (buf : List ℕ) (len n q : ℕ) → located l buf len ≡ refused n q → Rejected n q
+unfolding located
+located-refused l buf len n q e = by (unless-refused (lengthOk l buf len) 1 _ n q e)
+  where
+    last : ((n ≡ 18) × (q ≡ 0)) ⊎ (_≡_ {A = Result Part} (accepted (partIn l buf len)) (refused n q)) → Rejected n q
+    last (inl f) = record { number = inr (f .0); place = omega (arith, f .1) }
+    last (inr f) = absurd (clash (cc))
+
+    by : ((n ≡ 1) × (q ≡ 0)) ⊎ (unless (embeddedOk (l .form) (partOf buf len)) (refused 18 0) (accepted (partIn l buf len)) ≡ refused n q) → Rejected n q
+    by (inl f) = record { number = inl (omega (arith, f .0)); place = omega (arith, f .1) }
+    by (inr f) = last (unless-refused (embeddedOk (l .form) (partOf buf len)) 18 _ n q f)
+
+pub scan-refused : (l : Layout) (buf : List ℕ) (len n q : ℕ) → scan l buf len ≡ refused n q → Rejected n q
+unfolding scan
+scan-refused l buf len n q e = go (then-refused (located l buf len) rowsOf n q e)
+  where
+    go : (located l buf len ≡ refused n q) ⊎ ((m : Part) × (located l buf len ≡ accepted m) × (rowsOf m ≡ refused n q)) → Rejected n q
+    go (inl f) = located-refused l buf len n q f
+    go (inr f) =
+        let s = sized l buf len (f .0) (f .1) in
+        let g = rows-refused (partIn l buf len) n q (s .1 .least) (ap rowsOf (s .0) ∙ f .2) in
+        record { number = inl (g .number); place = omega (arith, s .1 .within, s .1 .most, g .place) }
+
+-- Read refuses with 1 to 8, 17 or 18, never with the limit's number
 pub record Unread (n q : ℕ) : Type 0 where
   pub number : n ≡ 10 → ⊥
   pub place : q ≤ 65536
@@ -159,8 +179,15 @@ rows-unread sheet m rows n q e =
 pub read-refused : (tm : Terms) (buf : List ℕ) (len n q : ℕ) → readTrace tm buf len ≡ refused n q → Unread n q
 unfolding readTrace
 read-refused tm buf len n q e =
-    by-one 17 n q _ (λ z. omega arith) (λ f. part (then-refused (scan buf len) (readRows (tm .sheet) (partOf buf len)) n q f)) (unless-refused (sheetOk (tm .sheet)) 17 _ n q e)
+    by-one 17 n q _ (λ z. omega arith) (λ f. part (then-refused (scan (tm .layout) buf len) (readRows (tm .sheet) m) n q f)) (unless-refused (sheetOk (tm .sheet)) 17 _ n q e)
   where
-    part : (scan buf len ≡ refused n q) ⊎ ((rows : List Row) × (scan buf len ≡ accepted rows) × (readRows (tm .sheet) (partOf buf len) rows ≡ refused n q)) → Unread n q
-    part (inl g) = let f = scan-refused buf len n q g in record { number = λ z. omega (arith, f .number); place = f .place }
-    part (inr g) = rows-unread (tm .sheet) (partOf buf len) (g .0) n q (g .2)
+    m : Part
+    m = partIn (tm .layout) buf len
+
+    never : (n ≤ 5) ⊎ (n ≡ 18) → n ≡ 10 → ⊥
+    never (inl h) z = omega arith
+    never (inr h) z = omega arith
+
+    part : (scan (tm .layout) buf len ≡ refused n q) ⊎ ((rows : List Row) × (scan (tm .layout) buf len ≡ accepted rows) × (readRows (tm .sheet) m rows ≡ refused n q)) → Unread n q
+    part (inl g) = let f = scan-refused (tm .layout) buf len n q g in record { number = never (f .number); place = f .place }
+    part (inr g) = rows-unread (tm .sheet) m (g .0) n q (g .2)

@@ -8,10 +8,9 @@ use lib.ListN.{take}
 use lib.Dec.{leb}
 use lib.Seq.{getD-take}
 use borrow.Author.Tests.{leb-true}
-use Rattle.meaning.specs.Bytes.{number, num, word}
+use Rattle.meaning.specs.Bytes.{partOf, number, num, word}
 use Rattle.meaning.specs.Answer.{accepted}
 use Rattle.meaning.specs.Structure.{Row, structureAt}
-use Rattle.meaning.specs.Message.{partOf}
 use Rattle.meaning.proofs.Numbers.{number-same}
 use Rattle.meaning.proofs.Tests.{cond-match}
 use Rattle.meaning.proofs.Structures.{RowAt, row-at}

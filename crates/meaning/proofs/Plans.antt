@@ -8,6 +8,7 @@ use native.Mathlib.Omega.{arith}
 use lib.Dec.{leb, eqb}
 use borrow.Author.Tests.{ltb-true, leb-true, eqb-false}
 use Rattle.meaning.specs.Names.{mostBytes, mostCount, twoTo31}
+use Rattle.meaning.specs.Layout.{roomFor}
 use Rattle.meaning.specs.Answer.{when}
 use Rattle.meaning.specs.Trace.{value, inRange}
 use Rattle.meaning.specs.Event.{Event, discontinuity, activity, Answer, done, denied, soundEvent, groupOf, Plan, reported, accumulated, recordedIn, planOf, overLimit, replyOwed, decide, State, leaving}
@@ -33,7 +34,7 @@ recorded-hi false = omega arith
 
 pub plan-ok : (v : List ℕ) (e : Event) → PlanOk (planOf v e) e
 unfolding planOf soundEvent groupOf
-plan-ok v discontinuity = record { lo = omega arith; hi = omega arith; lent = λ x. absurd (clash (cc)); told = λ x. absurd (clash (cc)) }
+plan-ok v (discontinuity s) = record { lo = omega arith; hi = omega arith; lent = λ x. absurd (clash (cc)); told = λ x. absurd (clash (cc)) }
 plan-ok v (activity a s) = record {
   lo = recorded-lo (reported v a s || accumulated v a s);
   hi = recorded-hi (reported v a s || accumulated v a s);
@@ -67,7 +68,7 @@ allowed v e size len room reportRoom r h =
     let k = plan-ok v e in
     let a = when-done (overLimit v) 10 0 (replyOwed v) _ h in
     let b = when-done (eqb (value v (p .counter)) mostCount) 11 0 false _ (a .1) in
-    let c = when-done (p .appends && not (leb (len + size) room && leb (len + size) mostBytes)) 12 0 false _ (b .1) in
+    let c = when-done (p .appends && not (roomFor (len + size) room)) 12 0 false _ (b .1) in
     let d = when-done (p .reports && not (leb (36 + size) reportRoom)) 13 0 false _ (c .1) in
     let n : ¬ (value v (p .counter) ≡ mostCount) = eqb-false _ _ (b .0) in
     record {
@@ -93,7 +94,7 @@ unfolding decide
 decide-limit v p size len room reportRoom =
     when-limit (overLimit v) (replyOwed v) _
     (when-not-limit (eqb (value v (p .counter)) mostCount) 11 0 false _ refl
-    (when-not-limit (p .appends && not (leb (len + size) room && leb (len + size) mostBytes)) 12 0 false _ refl
+    (when-not-limit (p .appends && not (roomFor (len + size) room)) 12 0 false _ refl
     (when-not-limit (p .reports && not (leb (36 + size) reportRoom)) 13 0 false _ refl refl)))
 
 -- over its limit nothing is accepted

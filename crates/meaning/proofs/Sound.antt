@@ -1,21 +1,21 @@
 -- What Read accepts, as a record of facts, and back.
-use mathlib.Core.Path.{_≡_, refl, subst}
+use mathlib.Core.Path.{_≡_, refl, ap, _∙_, subst}
 use mathlib.Core.Bool.{true, _&&_}
 use mathlib.Core.List.{List}
 use Prim.Native.Nat.{ℕ}
 use native.Mathlib.Omega.{arith}
 use lib.ListN.{length}
 use lib.Dec.{eqb}
-use borrow.Author.Tests.{le-leb, eqb-true, eq-eqb}
+use borrow.Author.Tests.{eqb-true, eq-eqb}
 use Rattle.meaning.specs.Bytes.{Part}
-use Rattle.meaning.specs.Names.{mostBytes}
 use Rattle.meaning.specs.Answer.{accepted}
 use Rattle.meaning.specs.Structure.{Row}
 use Rattle.meaning.specs.Walk.{walk}
-use Rattle.meaning.specs.Message.{parameterCount, firstPlace, headerOk, partOf, lengthOk, closed, rowsOf, scan}
+use Rattle.meaning.specs.Layout.{Layout, partIn, located}
+use Rattle.meaning.specs.Message.{parameterCount, firstPlace, headerOk, closed, rowsOf, scan}
 use Rattle.meaning.specs.Trace.{Terms, Trace, sheetOk, traceHeader, traceRoutes, directMembers, eachOnce, placesOf, valuesAt, inRange, readMembers, readRows, readTrace}
 use Rattle.meaning.proofs.Tests.{and-true, unless-accepted, then-accepted}
-use Rattle.meaning.proofs.Scans.{Sized, sized}
+use Rattle.meaning.proofs.Layouts.{Sized, sized, located-of}
 use Rattle.meaning.proofs.Walks.{Walks, walks, walks-as, walk-of}
 
 -- A SOUND MESSAGE, as check sees it
@@ -40,19 +40,18 @@ pub rows-of : (m : Part) (rows : List Row) → SoundRows m rows → rowsOf m ≡
 unfolding rowsOf closed
 rows-of m rows s = rw (s .header, walk-of (s .tree) (omega arith), eq-eqb (m .end) (m .end) refl) refl
 
-pub length-ok : (buf : List ℕ) (len : ℕ) → Sized buf len → lengthOk buf len ≡ true
-unfolding lengthOk
-length-ok buf len b = rw (le-leb len (length buf) (b .there), le-leb len mostBytes (b .most), le-leb 36 len (b .least)) refl
-
-pub sound-scan : (buf : List ℕ) (len : ℕ) (rows : List Row) → scan buf len ≡ accepted rows → Sized buf len × SoundRows (partOf buf len) rows
+pub sound-scan : (l : Layout) (buf : List ℕ) (len : ℕ) (rows : List Row) → scan l buf len ≡ accepted rows
+    → Sized l buf len × SoundRows (partIn l buf len) rows
 unfolding scan
-sound-scan buf len rows e =
-    let f = unless-accepted (lengthOk buf len) 1 0 _ rows e in
-    (sized buf len (f .0), sound-rows (partOf buf len) rows (f .1))
+sound-scan l buf len rows e =
+    let f = then-accepted (located l buf len) rowsOf rows e in
+    let g = sized l buf len (f .0) (f .1) in
+    (g .1, sound-rows (partIn l buf len) rows (ap rowsOf (g .0) ∙ f .2))
 
-pub scan-of : (buf : List ℕ) (len : ℕ) (rows : List Row) → Sized buf len → SoundRows (partOf buf len) rows → scan buf len ≡ accepted rows
+pub scan-of : (l : Layout) (buf : List ℕ) (len : ℕ) (rows : List Row) → Sized l buf len → SoundRows (partIn l buf len) rows
+    → scan l buf len ≡ accepted rows
 unfolding scan
-scan-of buf len rows b s = rw (length-ok buf len b) (rows-of (partOf buf len) rows s)
+scan-of l buf len rows b s = rw (located-of l buf len b) (rows-of (partIn l buf len) rows s)
 
 -- A SOUND TRACE
 pub record SoundMessage (sheet : List ℕ) (m : Part) (t : Trace) : Type 0 where
@@ -66,8 +65,8 @@ pub record SoundMessage (sheet : List ℕ) (m : Part) (t : Trace) : Type 0 where
 
 pub record Sound (tm : Terms) (buf : List ℕ) (len : ℕ) (t : Trace) : Type 0 where
   pub sheet-ok : sheetOk (tm .sheet) ≡ true
-  pub lies : Sized buf len
-  pub message : SoundMessage (tm .sheet) (partOf buf len) t
+  pub lies : Sized (tm .layout) buf len
+  pub message : SoundMessage (tm .sheet) (partIn (tm .layout) buf len) t
 
 sound-rows-read : (sheet : List ℕ) (m : Part) (rows : List Row) (t : Trace) → SoundRows m rows → readRows sheet m rows ≡ accepted t → SoundMessage sheet m t
 unfolding readRows readMembers
@@ -97,11 +96,12 @@ pub sound : (tm : Terms) (buf : List ℕ) (len : ℕ) (t : Trace) → readTrace 
 unfolding readTrace
 sound tm buf len t e =
     let f = unless-accepted (sheetOk (tm .sheet)) 17 0 _ t e in
-    let g = then-accepted (scan buf len) (readRows (tm .sheet) (partOf buf len)) t (f .1) in
-    let h = sound-scan buf len (g .0) (g .1) in
-    record { sheet-ok = f .0; lies = h .0; message = sound-rows-read (tm .sheet) (partOf buf len) (g .0) t (h .1) (g .2) }
+    let g = then-accepted (scan (tm .layout) buf len) (readRows (tm .sheet) (partIn (tm .layout) buf len)) t (f .1) in
+    let h = sound-scan (tm .layout) buf len (g .0) (g .1) in
+    record { sheet-ok = f .0; lies = h .0; message = sound-rows-read (tm .sheet) (partIn (tm .layout) buf len) (g .0) t (h .1) (g .2) }
 
 pub read-of : (tm : Terms) (buf : List ℕ) (len : ℕ) (t : Trace) → Sound tm buf len t → readTrace tm buf len ≡ accepted t
 unfolding readTrace
 read-of tm buf len t s =
-    rw (s .sheet-ok, scan-of buf len (t .rows) (s .lies) (s .message .structures)) (read-rows (tm .sheet) (partOf buf len) t (s .message))
+    rw (s .sheet-ok, scan-of (tm .layout) buf len (t .rows) (s .lies) (s .message .structures))
+    (read-rows (tm .sheet) (partIn (tm .layout) buf len) t (s .message))

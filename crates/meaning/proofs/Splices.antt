@@ -9,7 +9,7 @@ use native.Mathlib.Numerals.{towards-suc, add-one}
 use lib.ListN.{length, set, getD, take, drop, length-append, length-drop, List·getD-append, take-append-drop, drop-of-length-le}
 use lib.Dec.{leb, ltb}
 use borrow.Author.Tests.{ltb-true, ltb-false, leb-true, leb-false}
-use lib.Seq.{length-take-le, getD-append-add, getD-take, getD-drop, set-split, take-set-le, sets-eq, paste, take-length, take-at, drop-at, drop-drop, ext-getD, take-all}
+use lib.Seq.{length-take-le, getD-append-add, getD-take, getD-drop, set-split, take-set-le, sets-eq, paste, take-length, take-take, take-at, drop-at, drop-drop, ext-getD, take-all}
 use Rattle.meaning.specs.Bytes.{number, bytes4, words, splice}
 use Rattle.meaning.proofs.Numbers.{number-bytes4, length-bytes4, length-words, Run, number-match}
 
@@ -120,6 +120,11 @@ splice-lent d n s =
     let le : length (drop n d) ≤ length d - n = omega arith in
     rw (take-all (length d - n) (drop n d) le, drop-of-length-le (drop n d) le, append-nil) (splice-drop d n s)
 
+-- what is written at the start of a list
+pub take-written : (d s : List ℕ) (n : ℕ) → length s ≡ n → n ≤ length d → take n (splice d 0 s) ≡ s
+take-written d s n e h =
+    ap (λ (k : ℕ). take k (splice d 0 s)) (sym (zero-add (length s) ∙ e)) ∙ take-splice d 0 s (omega arith)
+
 -- IN SEVERAL STEPS
 -- nothing written
 pub splice-none : (d : List ℕ) (at : ℕ) → splice d at [] ≡ d
@@ -147,6 +152,21 @@ splice-next d at xs n ys e h =
       length-append,
       k,
     ) (simp append-assoc)
+
+-- and a second run in front of the first
+pub splice-front : (d : List ℕ) (n : ℕ) (xs : List ℕ) (at : ℕ) (ys : List ℕ) → n ≡ at + length ys → n + length xs ≤ length d
+    → splice (splice d n xs) at ys ≡ splice d at (ys ++ xs)
+unfolding splice
+splice-front d n xs at ys e h =
+    let front : length (take n d) ≡ n = length-take-le n d (omega arith) in
+    let k : at + (length ys + length xs) ≡ n + length xs = omega arith in
+    let right : take n d ++ xs ++ drop (n + length xs) d ≡ take n d ++ (xs ++ drop (n + length xs) d) = append-assoc (take n d) xs (drop (n + length xs) d) in
+    let low : take at (take n d ++ xs ++ drop (n + length xs) d) ≡ take at d =
+    sym (take-take at n (take n d ++ xs ++ drop (n + length xs) d) (omega arith))
+    ∙ ap (take at) (ap (take n) right ∙ take-at (take n d) (xs ++ drop (n + length xs) d) n front) ∙ take-take at n d (omega arith) in
+    let high : drop (at + length ys) (take n d ++ xs ++ drop (n + length xs) d) ≡ xs ++ drop (n + length xs) d =
+    ap (λ (j : ℕ). drop j (take n d ++ xs ++ drop (n + length xs) d)) (sym e) ∙ ap (drop n) right ∙ drop-at (take n d) (xs ++ drop (n + length xs) d) n front in
+    rw (low, high, length-append, k) (simp append-assoc)
 
 -- one byte behind what was written
 pub splice-push : (d : List ℕ) (at : ℕ) (xs : List ℕ) (n v : ℕ) → n ≡ at + length xs → n < length d

@@ -69,7 +69,3 @@ then-refused (refused k′ q′) f k q e = cc
 pub bit : (b : Bool) → cond b 1 0 ≤ 1
 bit true = omega arith
 bit false = omega arith
-
--- a refusal is the same whatever would have been given
-pub same-refusal : {A B : Type 0} (n p k q : ℕ) → _≡_ {A = Result A} (refused n p) (refused k q) → _≡_ {A = Result B} (refused n p) (refused k q)
-same-refusal n p k q e = let f : n ≡ k = cc in let g : p ≡ q = cc in rw (f, g) refl

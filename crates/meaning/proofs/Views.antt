@@ -1,21 +1,21 @@
 -- Nothing but the view sways an event: on a sound trace it answers as `seen` says of the trace's view, leaves a sound
 -- trace with the attributes where they were, and the view of that is the one that `seen` leaves.
-use mathlib.Core.Path.{_≡_, refl, sym, ap}
+use mathlib.Core.Path.{_≡_, refl, sym, ap, _∙_}
 use mathlib.Core.Bool.{Bool, true, false, cond}
 use mathlib.Core.List.{List, [], _∷_, _++_, append-nil}
 use Prim.Native.Nat.{ℕ, _+_}
 use native.Mathlib.Nat.{add-zero}
 use lib.ListN.{length}
-use Rattle.meaning.specs.Bytes.{bump}
+use Rattle.meaning.specs.Bytes.{partOf, bump}
 use Rattle.meaning.specs.Answer.{accepted, unless}
-use Rattle.meaning.specs.Message.{partOf}
 use Rattle.meaning.specs.Trace.{Terms, Trace, value, valuePlace, readTrace}
-use Rattle.meaning.specs.Event.{State, Event, Answer, done, denied, Outcome, soundEvent, groupOf, Plan, planOf, grownIf, reportedIf, applied, decided, performed, leaving, onTrace, event}
+use Rattle.meaning.specs.Layout.{Layout, embeddingOf}
+use Rattle.meaning.specs.Event.{State, Event, layoutNamed, Answer, done, denied, Outcome, soundEvent, groupOf, Plan, planOf, grownIf, reportedIf, partHeld, userHeld, applied, decided, performed, leaving, onTrace, eventOn, event}
 use Rattle.meaning.specs.Activity.{Span}
 use Rattle.meaning.specs.View.{viewOf, risen, viewAfter, Seen, seeing, seen}
 use Rattle.meaning.specs.Demand3.{isDone}
 use Rattle.meaning.proofs.Sound.{Sound, sound, read-of}
-use Rattle.meaning.proofs.Applied.{raised-sound, length-raised, grown-sound, length-grown, appended-activity}
+use Rattle.meaning.proofs.Applied.{raised-sound, length-raised, raised-part, raised-embedding, grown-sound, length-grown, grown-lies, grown-embedding, appended-activity}
 use Rattle.meaning.proofs.Spans.{spansOf, spans-more}
 use Rattle.meaning.proofs.Plans.{plan-ok, Allowed, allowed}
 
@@ -25,14 +25,16 @@ spanIf true p n = record { place = p; length = n } ∷ []
 spanIf false p n = []
 
 -- what an event leaves of a sound trace t: a sound trace in a buffer of the same length; its Activity groups are those of
--- t and, if one was appended, that one, last
+-- t and, if one was appended, that one, last; its part is as much longer, and its embedding the same
 pub record Leaves (tm : Terms) (st st′ : State) (t : Trace) (c : ℕ) (appended : Bool) (size : ℕ) : Type 0 where
   pub trace : Trace
   pub still-sound : Sound tm (st′ .buf) (st′ .len) trace
   pub same-places : trace .places ≡ t .places
   pub risen-values : trace .values ≡ risen (t .values) c
   pub same-room : length (st′ .buf) ≡ length (st .buf)
-  pub spans : spansOf (trace .rows) ≡ spansOf (t .rows) ++ spanIf appended (st .len) size
+  pub new-end : partHeld (tm .layout) st′ .end ≡ partHeld (tm .layout) st .end + cond appended size 0
+  pub one-embedding : embeddingOf (tm .layout .form) (partOf (st′ .buf) (st′ .len)) ≡ embeddingOf (tm .layout .form) (partOf (st .buf) (st .len))
+  pub spans : spansOf (trace .rows) ≡ spansOf (t .rows) ++ spanIf appended (partHeld (tm .layout) st .end) size
 
 module _ (tm : Terms) (st : State) (e : Event) (t : Trace) (s : Sound tm (st .buf) (st .len) t) (ok : soundEvent e ≡ true) where
   abbrev plan : Plan
@@ -42,7 +44,8 @@ module _ (tm : Terms) (st : State) (e : Event) (t : Trace) (s : Sound tm (st .bu
   left : (b : Bool) → plan .appends ≡ b
       → Allowed (t .values) plan (length (groupOf e)) (st .len) (length (st .buf)) (length (st .report)) → (report : List ℕ)
       → Leaves tm st (record {
-        buf = grownIf b (partOf (st .buf) (st .len)) (bump (partOf (st .buf) (st .len)) (st .buf) (valuePlace (value (t .places) (plan .counter)))) (groupOf e);
+        buf = grownIf b (tm .layout .form) (partHeld (tm .layout) st) (userHeld (tm .layout) st)
+            (bump (partHeld (tm .layout) st) (st .buf) (valuePlace (value (t .places) (plan .counter)))) (groupOf e);
         len = st .len + cond b (length (groupOf e)) 0;
         report = report;
       }) t (plan .counter) b (length (groupOf e))
@@ -57,8 +60,10 @@ module _ (tm : Terms) (st : State) (e : Event) (t : Trace) (s : Sound tm (st .bu
         same-places = refl;
         risen-values = refl;
         same-room = length-grown tm (st .buf) (st .len) t s (plan .counter) (k .lo) (k .hi) (a .below) (groupOf e) g (f .0) (f .1);
+        new-end = grown-lies tm (st .buf) (st .len) t s (plan .counter) (k .lo) (k .hi) (a .below) (groupOf e) g (f .0) (f .1) .1;
+        one-embedding = grown-embedding tm (st .buf) (st .len) t s (plan .counter) (k .lo) (k .hi) (a .below) (groupOf e) g (f .0) (f .1);
         spans = spans-more _ _ _ (appended-activity tm (st .buf) (st .len) t s (plan .counter) (k .lo) (k .hi) (a .below) (groupOf e) g (f .0) (f .1))
-            (length (groupOf e)) refl (t .rows);
+            (length (groupOf e)) (grown-lies tm (st .buf) (st .len) t s (plan .counter) (k .lo) (k .hi) (a .below) (groupOf e) g (f .0) (f .1) .1) (t .rows);
       }
   left false q a report =
       let k = plan-ok (t .values) e in
@@ -68,13 +73,20 @@ module _ (tm : Terms) (st : State) (e : Event) (t : Trace) (s : Sound tm (st .bu
         same-places = refl;
         risen-values = refl;
         same-room = length-raised tm (st .buf) (st .len) t s (plan .counter) (k .lo) (k .hi) (a .below);
+        new-end = rw (add-zero (st .len)) (raised-part tm (st .buf) (st .len) t s (plan .counter) (k .lo) (k .hi) (a .below) .1 ∙ sym (add-zero _));
+        one-embedding = rw (add-zero (st .len)) (raised-embedding tm (st .buf) (st .len) t s (plan .counter) (k .lo) (k .hi) (a .below));
         spans = sym (append-nil (spansOf (t .rows)));
       }
 
   pub applied-leaves : Allowed (t .values) plan (length (groupOf e)) (st .len) (length (st .buf)) (length (st .report))
-      → Leaves tm st (applied st (groupOf e) (t .places) plan) t (plan .counter) (plan .appends) (length (groupOf e))
+      → Leaves tm st (applied (tm .layout) st (groupOf e) (t .places) plan) t (plan .counter) (plan .appends) (length (groupOf e))
   unfolding applied
   applied-leaves a = left (plan .appends) refl a (reportedIf (plan .reports) (st .report) (groupOf e))
+
+-- an event that names the layout of the terms is one under these terms
+pub event-on : (tm : Terms) (st : State) (e : Event) → layoutNamed e ≡ tm .layout → event (tm .sheet) st e ≡ eventOn tm st e
+unfolding event
+event-on tm st e h = ap (λ (l : Layout). eventOn (record { sheet = tm .sheet; layout = l }) st e) h
 
 -- the event is what is seen
 pub record Faithful (tm : Terms) (t : Trace) (o : Outcome) (s : Seen) : Type 0 where
@@ -91,7 +103,7 @@ module _ (tm : Terms) (st : State) (e : Event) (t : Trace) (r : readTrace tm (st
 
   by-answer : soundEvent e ≡ true → (a : Answer)
       → decided st e (t .values) ≡ a
-      → Faithful tm t (leaving st (performed st e t) a)
+      → Faithful tm t (leaving st (performed (tm .layout) st e t) a)
       (seeing (viewOf (t .values) st) (viewAfter (viewOf (t .values) st) (groupOf e) (planOf (t .values) e)) a)
   unfolding viewAfter applied
   by-answer h (done x) d =
@@ -107,17 +119,20 @@ module _ (tm : Terms) (st : State) (e : Event) (t : Trace) (r : readTrace tm (st
       }
   by-answer h (denied x y z) d = denied-faithful x y z
 
-  -- AN EVENT IS WHAT IS SEEN OF IT
-  pub event-seen : Faithful tm t (event tm st e) (seen (viewOf (t .values) st) e)
-  unfolding event onTrace seen
-  event-seen = rw r (go (soundEvent e) refl)
+  seen-on : Faithful tm t (eventOn tm st e) (seen (viewOf (t .values) st) e)
+  unfolding eventOn onTrace seen
+  seen-on = rw r (go (soundEvent e) refl)
     where
       go : (b : Bool) → soundEvent e ≡ b
           → Faithful tm t
           (unless b (record { answer = denied 9 0 false; next = st })
-          (leaving st (performed st e t) (decided st e (t .values))))
+          (leaving st (performed (tm .layout) st e t) (decided st e (t .values))))
           (unless b (record { answer = denied 9 0 false; next = viewOf (t .values) st })
           (seeing (viewOf (t .values) st) (viewAfter (viewOf (t .values) st) (groupOf e) (planOf (t .values) e))
           (decided st e (t .values))))
       go true h = by-answer h (decided st e (t .values)) refl
       go false h = denied-faithful 9 0 false
+
+  -- AN EVENT IS WHAT IS SEEN OF IT
+  pub event-seen : layoutNamed e ≡ tm .layout → Faithful tm t (event (tm .sheet) st e) (seen (viewOf (t .values) st) e)
+  event-seen h = rw (event-on tm st e h) seen-on

@@ -2,7 +2,7 @@
 -- rows and end at q. It is the same as an accepted walk, both ways, and structural laws are inductions over it.
 use mathlib.Core.Path.{_≡_, refl, sym, ap, _∙_, subst}
 use mathlib.Core.List.{List, [], _∷_, _++_, append-assoc, append-nil, map}
-use Prim.Native.Nat.{ℕ, zero, suc, _+_, _*_, _≤_}
+use Prim.Native.Nat.{ℕ, zero, suc, _+_, _*_, _%_, _≤_}
 use native.Mathlib.Nat.{suc-add, zero-add, add-assoc}
 use native.Mathlib.Omega.{arith}
 use Rattle.meaning.specs.Bytes.{Part}
@@ -86,6 +86,12 @@ pub walks-le : {s : Part} {p d n : ℕ} {rows : List Row} {q : ℕ} → Walks s 
 walks-le none = omega arith
 walks-le (more {p} {d} {n} {p₁} {q} {r} t w₁ w₂) =
     omega (arith, walks-le w₁, walks-le w₂, (row-at _ p d r t) .at-least)
+
+-- and a multiple of 4
+pub walks-four : {s : Part} {p d n : ℕ} {rows : List Row} {q : ℕ} → Walks s p d n rows q → p % 4 ≡ 0 → q % 4 ≡ 0
+walks-four none e = e
+walks-four (more {p} {d} {n} {p₁} {q} {r} t w₁ w₂) e =
+    walks-four w₂ (walks-four w₁ (omega (arith, (row-at _ p d r t) .at-four)))
 
 -- and with enough fuel a derivation is an accepted walk
 pub fuel-walks : {s : Part} {p d n : ℕ} {rows : List Row} {q : ℕ} (f : ℕ) → Walks s p d n rows q → q ≤ p + f → walkFuel f s p d n ≡ walked rows q

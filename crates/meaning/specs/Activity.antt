@@ -8,7 +8,7 @@ use Rattle.meaning.specs.Bytes.{Part, num}
 use Rattle.meaning.specs.Names.{«MQCFT_STRING»}
 use Rattle.meaning.specs.Answer.{Result, accepted, refused, consIf}
 use Rattle.meaning.specs.Structure.{Row}
-use Rattle.meaning.specs.Message.{partOf}
+use Rattle.meaning.specs.Layout.{partIn}
 use Rattle.meaning.specs.Trace.{Top, activities, directIn, named, Terms, Trace, readTrace}
 
 -- a part of the message: its place and length, and its bytes
@@ -72,15 +72,15 @@ abbrev pub trimmedAt : List ℕ → Span → Span
 trimmedAt buf s = record { place = s .place; length = length (trimmed (bytesIn buf s)) }
 
 -- the first of the strings with the identifier
-abbrev pub firstName : List ℕ → ℕ → List Row → Name
-firstName buf len [] = substitute
-firstName buf len (r ∷ rs) = inMessage (trimmedAt buf (stringAt (partOf buf len) (r .place)))
+abbrev pub firstName : Part → List ℕ → List Row → Name
+firstName m buf [] = substitute
+firstName m buf (r ∷ rs) = inMessage (trimmedAt buf (stringAt m (r .place)))
 
 -- A NAMED STRING: the first direct string with the identifier in the n-th Activity group, without its trailing blanks and
 -- zero bytes; or the substitute, if message or sheet is refused or there is no such string
 unfoldable pub nameOf : Terms → List ℕ → ℕ → ℕ → ℕ → Name
 nameOf tm buf len n id =
-    firstName buf len (named id (strings (directIn (nthActivity (readTrace tm buf len) n .inside))))
+    firstName (partIn (tm .layout) buf len) buf (named id (strings (directIn (nthActivity (readTrace tm buf len) n .inside))))
 
 -- the bytes of a name: a part of the message's, or all of the lent substitute's
 abbrev pub nameBytes : List ℕ → List ℕ → Name → List ℕ

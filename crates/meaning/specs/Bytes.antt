@@ -24,8 +24,8 @@ words (x ∷ xs) = bytes4 x ++ words xs
 unfoldable pub splice : List ℕ → ℕ → List ℕ → List ℕ
 splice d at s = take at d ++ s ++ drop (at + length s) d
 
--- What is walked: the message's bytes, the place of the PCF part's first byte and the place behind its last one.
--- Places are counted from the message's first byte.
+-- What is walked: the message's bytes up to the PCF part's end, the place of the part's first byte and the place behind its last
+-- one. Places are counted from the message's first byte.
 pub record Part : Type 0 where
   pub bytes : List ℕ
   pub start : ℕ
@@ -34,6 +34,10 @@ pub record Part : Type 0 where
 -- the part that all bytes of a list are
 abbrev pub whole : List ℕ → Part
 whole s = record { bytes = s; start = 0; end = length s }
+
+-- the part that the first bytes of a buffer are: a plain message, or all of an embedded one, whose header is read in it
+abbrev pub partOf : List ℕ → ℕ → Part
+partOf buf end = record { bytes = take end buf; start = 0; end = end }
 
 -- the number at a place of a part
 abbrev pub num : Part → ℕ → ℕ

@@ -38,7 +38,7 @@ arriveBy v =
 
 -- FORWARDING, to a manager with or without trace-route messaging, and ARRIVAL: Read's refusals first
 unfoldable pub forwarding : Terms → List ℕ → ℕ → Bool → Result Decision
-forwarding tm buf len supporting = andThen (read tm buf len) (λ v. forwardBy v supporting)
+forwarding tm buf len supporting = andThen (read tm buf len) (λ r. forwardBy (r .values) supporting)
 
 unfoldable pub arrival : Terms → List ℕ → ℕ → Result Decision
-arrival tm buf len = andThen (read tm buf len) arriveBy
+arrival tm buf len = andThen (read tm buf len) (λ r. arriveBy (r .values))

@@ -7,8 +7,9 @@ use lib.ListN.{length, getD, take}
 use lib.Dec.{ltb, eqb}
 use Rattle.meaning.specs.Names.{MaxActivities, «MQROUTE_UNLIMITED_ACTIVITIES», «MQFB_MAX_ACTIVITIES»}
 use Rattle.meaning.specs.Answer.{Result, accepted, refused}
+use Rattle.meaning.specs.Layout.{Layout, plain}
 use Rattle.meaning.specs.Trace.{Terms, Trace, value, valuePlace, readTrace}
-use Rattle.meaning.specs.Event.{State, Event, discontinuity, Answer, done, denied, event, counterSum, soundEvent}
+use Rattle.meaning.specs.Event.{State, Event, discontinuity, layoutNamed, Answer, done, denied, event, counterSum, soundEvent}
 
 -- A TRACE of demand 3 is a state under the caller's terms; this is what Read makes of it
 abbrev pub readOf : Terms → State → Result Trace
@@ -55,17 +56,25 @@ pub record Alike (q : ℕ) (t u : State) : Type 0 where
 -- THE RUN: each event finds message, length and report buffer as the one before left them, whatever that one answered
 unfoldable pub stateAfter : Terms → State → List Event → State
 stateAfter tm st [] = st
-stateAfter tm st (e ∷ es) = stateAfter tm ((event tm st e) .next) es
+stateAfter tm st (e ∷ es) = stateAfter tm ((event (tm .sheet) st e) .next) es
 
--- the n-th event, the state before it (after the first n events), and the answer to it
+-- the n-th event; what stands behind the last one, where no statement looks
+abbrev pub noEvent : Event
+noEvent = discontinuity (record { activityRecording = false; traceRouteMessaging = false; layout = record { form = plain } })
+
 abbrev pub eventAt : List Event → ℕ → Event
-eventAt evs n = getD evs n discontinuity
+eventAt evs n = getD evs n noEvent
 
+-- every event names the layout
+abbrev pub AllName : Layout → List Event → Type 0
+AllName l evs = (n : ℕ) → n < length evs → layoutNamed (eventAt evs n) ≡ l
+
+-- the state before the n-th event (after the first n events), and the answer to it
 unfoldable pub stateAt : Terms → State → List Event → ℕ → State
 stateAt tm st evs n = stateAfter tm st (take n evs)
 
 unfoldable pub answerAt : Terms → State → List Event → ℕ → Answer
-answerAt tm st evs n = (event tm (stateAt tm st evs n) (eventAt evs n)) .answer
+answerAt tm st evs n = (event (tm .sheet) (stateAt tm st evs n) (eventAt evs n)) .answer
 
 -- accepted: the answer is no refusal; rejected for the limit: it is 10
 abbrev pub isDone : Answer → Bool

@@ -5,10 +5,11 @@ use mathlib.Core.List.{List, [], _++_}
 use lib.ListN.{length}
 use lib.Dec.{leb, ltb, eqb}
 use Rattle.meaning.specs.Bytes.{Part, whole, num, words, splice, bump}
-use Rattle.meaning.specs.Names.{mostBytes, mostCount, «MQCFT_GROUP», «MQGACF_ACTIVITY», «MQROUTE_DETAIL_LOW», «MQROUTE_DETAIL_MEDIUM», «MQROUTE_DETAIL_HIGH», «MQROUTE_ACCUMULATE_NONE», «MQROUTE_ACCUMULATE_AND_REPLY», «MQROUTE_UNLIMITED_ACTIVITIES», Detail, RecordedActivities, UnrecordedActivities, DiscontinuityCount, MaxActivities, Accumulate, badGroup, «MQFB_MAX_ACTIVITIES», counterFull, noRoom, reportTooShort}
+use Rattle.meaning.specs.Names.{mostCount, «MQCFT_GROUP», «MQGACF_ACTIVITY», «MQROUTE_DETAIL_LOW», «MQROUTE_DETAIL_MEDIUM», «MQROUTE_DETAIL_HIGH», «MQROUTE_ACCUMULATE_NONE», «MQROUTE_ACCUMULATE_AND_REPLY», «MQROUTE_UNLIMITED_ACTIVITIES», Detail, RecordedActivities, UnrecordedActivities, DiscontinuityCount, MaxActivities, Accumulate, badGroup, «MQFB_MAX_ACTIVITIES», counterFull, noRoom, reportTooShort}
 use Rattle.meaning.specs.Answer.{Result, accepted, refused, when, unless}
 use Rattle.meaning.specs.Walk.{Walked, walk}
-use Rattle.meaning.specs.Message.{countPlace, partOf}
+use Rattle.meaning.specs.Layout.{Form, Layout, partIn, roomFor, userData, lengthened}
+use Rattle.meaning.specs.Message.{countPlace}
 use Rattle.meaning.specs.Trace.{Terms, Trace, value, valuePlace, readTrace}
 use Rattle.meaning.specs.Compose.{reportHeaderFields}
 
@@ -22,15 +23,20 @@ pub record Activity : Type 0 where
   pub group : List ℕ
   pub reportsAsked : Bool
 
--- what the queue manager does: record activities, trace routes
+-- what the queue manager does: record activities, trace routes; and how the trace is laid out
 pub record Settings : Type 0 where
   pub activityRecording : Bool
   pub traceRouteMessaging : Bool
+  pub layout : Layout
 
--- each activity comes with its settings; for a discontinuity they play no part
+-- each event comes with its settings; of a discontinuity's only the layout plays a part
 pub data Event : Type 0 where
-  discontinuity : Event
+  discontinuity : Settings → Event
   activity : Activity → Settings → Event
+
+abbrev pub layoutNamed : Event → Layout
+layoutNamed (discontinuity s) = s .layout
+layoutNamed (activity a s) = s .layout
 
 -- THE LENT GROUP is a part of its own, which one sound group 8005 of depth 1 fills; of 16 to 65,500 bytes, so that it is a
 -- message with a report's header in front.
@@ -45,11 +51,11 @@ groupOk g =
 
 -- an event's group, and whether it is sound; a discontinuity needs none
 unfoldable pub groupOf : Event → List ℕ
-groupOf discontinuity = []
+groupOf (discontinuity s) = []
 groupOf (activity a s) = a .group
 
 unfoldable pub soundEvent : Event → Bool
-soundEvent discontinuity = true
+soundEvent (discontinuity s) = true
 soundEvent (activity a s) = groupOk (a .group)
 
 -- WHAT IS DUE
@@ -84,7 +90,7 @@ pub record Plan : Type 0 where
   pub reports : Bool
 
 unfoldable pub planOf : List ℕ → Event → Plan
-planOf v discontinuity = record { counter = DiscontinuityCount; appends = false; reports = false }
+planOf v (discontinuity s) = record { counter = DiscontinuityCount; appends = false; reports = false }
 planOf v (activity a s) = record {
   counter = recordedIn (reported v a s || accumulated v a s);
   appends = accumulated v a s;
@@ -135,7 +141,7 @@ unfoldable pub decide : List ℕ → Plan → ℕ → ℕ → ℕ → ℕ → An
 decide v p size len room reportRoom =
     when (overLimit v) (denied «MQFB_MAX_ACTIVITIES» 0 (replyOwed v))
     (when (eqb (value v (p .counter)) mostCount) (denied counterFull 0 false)
-    (when (p .appends && not (leb (len + size) room && leb (len + size) mostBytes)) (denied noRoom 0 false)
+    (when (p .appends && not (roomFor (len + size) room)) (denied noRoom 0 false)
     (when (p .reports && not (leb (reportLength size) reportRoom)) (denied reportTooShort 0 false)
     (done (doneBy p size len)))))
 
@@ -146,13 +152,14 @@ pub record State : Type 0 where
   pub len : ℕ
   pub report : List ℕ
 
--- appended: the header's ParameterCount one higher, and the group behind the message as it was
-unfoldable pub grown : Part → List ℕ → List ℕ → List ℕ
-grown s b g = splice (bump s b (countPlace s)) (s .end) g
+-- appended: the part as much longer as the group, the header's ParameterCount one higher, and from the part's old end on the
+-- group and then the user data as it was
+unfoldable pub grown : Form → Part → List ℕ → List ℕ → List ℕ → List ℕ
+grown f s user b g = splice (bump s (lengthened f s (length g) b) (countPlace s)) (s .end) (g ++ user)
 
-abbrev pub grownIf : Bool → Part → List ℕ → List ℕ → List ℕ
-grownIf true s b g = grown s b g
-grownIf false s b g = b
+abbrev pub grownIf : Bool → Form → Part → List ℕ → List ℕ → List ℕ → List ℕ
+grownIf true f s user b g = grown f s user b g
+grownIf false f s user b g = b
 
 -- reported: the report's header and the group; the bytes behind it stay
 unfoldable pub reportOf : List ℕ → List ℕ
@@ -162,11 +169,18 @@ abbrev pub reportedIf : Bool → List ℕ → List ℕ → List ℕ
 reportedIf true r g = splice r 0 (reportOf g)
 reportedIf false r g = r
 
+-- the trace's part, and its user data
+abbrev pub partHeld : Layout → State → Part
+partHeld l st = partIn l (st .buf) (st .len)
+
+abbrev pub userHeld : Layout → State → List ℕ
+userHeld l st = userData (partHeld l st) (st .buf) (st .len)
+
 -- done: the Value of the counter one higher; then as planned. No other byte changes.
-unfoldable pub applied : State → List ℕ → List ℕ → Plan → State
-applied st g places p = record {
-  buf = grownIf (p .appends) (partOf (st .buf) (st .len))
-      (bump (partOf (st .buf) (st .len)) (st .buf) (valuePlace (value places (p .counter)))) g;
+unfoldable pub applied : Layout → State → List ℕ → List ℕ → Plan → State
+applied l st g places p = record {
+  buf = grownIf (p .appends) (l .form) (partHeld l st) (userHeld l st)
+      (bump (partHeld l st) (st .buf) (valuePlace (value places (p .counter)))) g;
   len = st .len + cond (p .appends) (length g) 0;
   report = reportedIf (p .reports) (st .report) g;
 }
@@ -184,19 +198,23 @@ leaving st st′ (denied n p owed) = record { answer = denied n p owed; next = s
 abbrev pub decided : State → Event → List ℕ → Answer
 decided st e v = decide v (planOf v e) (length (groupOf e)) (st .len) (length (st .buf)) (length (st .report))
 
-abbrev pub performed : State → Event → Trace → State
-performed st e t = applied st (groupOf e) (t .places) (planOf (t .values) e)
+abbrev pub performed : Layout → State → Event → Trace → State
+performed l st e t = applied l st (groupOf e) (t .places) (planOf (t .values) e)
 
 -- an event on a trace that is read: 9, then what is decided
-unfoldable pub onTrace : State → Event → Trace → Outcome
-onTrace st e t =
+unfoldable pub onTrace : Layout → State → Event → Trace → Outcome
+onTrace l st e t =
     unless (soundEvent e) (record { answer = denied badGroup 0 false; next = st })
-    (leaving st (performed st e t) (decided st e (t .values)))
+    (leaving st (performed l st e t) (decided st e (t .values)))
 
-abbrev pub onRead : State → Event → Result Trace → Outcome
-onRead st e (accepted t) = onTrace st e t
-onRead st e (refused n p) = record { answer = denied n p false; next = st }
+abbrev pub onRead : Layout → State → Event → Result Trace → Outcome
+onRead l st e (accepted t) = onTrace l st e t
+onRead l st e (refused n p) = record { answer = denied n p false; next = st }
 
--- EVENT: 17, 1 to 8 as in Read, then 9 to 13
-unfoldable pub event : Terms → State → Event → Outcome
-event tm st e = onRead st e (readTrace tm (st .buf) (st .len))
+-- an event on a trace under the caller's terms
+unfoldable pub eventOn : Terms → State → Event → Outcome
+eventOn tm st e = onRead (tm .layout) st e (readTrace tm (st .buf) (st .len))
+
+-- EVENT, under a sheet and in the layout that its settings name: 17, 1, 18 and 2 to 8 as in Read, then 9 to 13
+unfoldable pub event : List ℕ → State → Event → Outcome
+event sheet st e = eventOn (record { sheet = sheet; layout = layoutNamed e }) st e

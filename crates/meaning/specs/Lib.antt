@@ -3,6 +3,7 @@ pub mod Names
 pub mod Answer
 pub mod Structure
 pub mod Walk
+pub mod Layout
 pub mod Message
 pub mod Listing
 pub mod Trace

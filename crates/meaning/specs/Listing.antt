@@ -9,7 +9,8 @@ use lib.Dec.{ltb}
 use Rattle.meaning.specs.Bytes.{Part}
 use Rattle.meaning.specs.Answer.{Result, accepted, refused}
 use Rattle.meaning.specs.Structure.{Row}
-use Rattle.meaning.specs.Message.{headerType, command, parameterCount, partOf, scan}
+use Rattle.meaning.specs.Layout.{Layout, partIn}
+use Rattle.meaning.specs.Message.{headerType, command, parameterCount, scan}
 
 -- the bytes of a text
 abbrev pub ascii : String → List ℕ
@@ -38,7 +39,7 @@ decimal n = digits 10 n
 unfoldable pub column : ℕ → ℕ → List ℕ
 column n behind = decimal n ++ behind ∷ []
 
--- type, command, count, length
+-- type, command, count, and the length of the whole message
 unfoldable pub headerLine : Part → ℕ → List ℕ
 headerLine m len =
     ascii "pcf " ++ (column (headerType m) blank ++ (column (command m) blank ++ (column (parameterCount m) blank ++ column len newline)))
@@ -63,10 +64,10 @@ listingText m len rows = headerLine m len ++ (rowLines rows ++ endLine (length r
 unfoldable pub refusalLine : ℕ → ℕ → List ℕ
 refusalLine n p = ascii "refused " ++ (column n blank ++ column p newline)
 
-abbrev pub printed : List ℕ → ℕ → Result (List Row) → List ℕ
-printed buf len (accepted rows) = listingText (partOf buf len) len rows
-printed buf len (refused n p) = refusalLine n p
+abbrev pub printed : Layout → List ℕ → ℕ → Result (List Row) → List ℕ
+printed l buf len (accepted rows) = listingText (partIn l buf len) len rows
+printed l buf len (refused n p) = refusalLine n p
 
 -- LISTING: what the program prints of the message in the first len bytes
-unfoldable pub listing : List ℕ → ℕ → List ℕ
-listing buf len = printed buf len (scan buf len)
+unfoldable pub listing : Layout → List ℕ → ℕ → List ℕ
+listing l buf len = printed l buf len (scan l buf len)

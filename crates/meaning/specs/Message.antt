@@ -1,14 +1,15 @@
--- A whole message: the header, the refusals 1 to 5, check, tally and the walk one structure at a time.
+-- A whole message: the header, the refusals 1 to 5 and 18, check, tally and the walk one structure at a time.
 use Prim.Native.Nat.{ℕ, zero, suc, _+_}
 use mathlib.Core.Bool.{Bool, cond, _&&_}
 use mathlib.Core.List.{List, [], _∷_}
-use lib.ListN.{length, take, replicate}
+use lib.ListN.{length, replicate}
 use lib.Dec.{leb, eqb}
 use Rattle.meaning.specs.Bytes.{Part, num}
-use Rattle.meaning.specs.Names.{mostBytes, badLength, badHeader, leftOver, «MQCFH_STRUC_LENGTH», «MQCFH_VERSION_3»}
+use Rattle.meaning.specs.Names.{badHeader, leftOver, «MQCFH_STRUC_LENGTH», «MQCFH_VERSION_3»}
 use Rattle.meaning.specs.Answer.{Result, accepted, refused, andThen, unless}
 use Rattle.meaning.specs.Structure.{Row, small, structureAt}
 use Rattle.meaning.specs.Walk.{Walked, walk}
+use Rattle.meaning.specs.Layout.{Layout, located}
 
 -- the header's nine fields, each by its offset from the part's first byte
 abbrev pub field : Part → ℕ → ℕ
@@ -53,14 +54,6 @@ unfoldable pub headerOk : Part → Bool
 headerOk m =
     eqb (strucLength m) «MQCFH_STRUC_LENGTH» && (leb 1 (version m) && (leb (version m) «MQCFH_VERSION_3» && small (parameterCount m)))
 
--- the message is the first len bytes of the lent buffer
-abbrev pub partOf : List ℕ → ℕ → Part
-partOf buf len = record { bytes = take len buf; start = 0; end = len }
-
--- a length is not above the buffer or 65,536, nor below 36
-unfoldable pub lengthOk : List ℕ → ℕ → Bool
-lengthOk buf len = leb len (length buf) && (leb len mostBytes && leb 36 len)
-
 -- nothing may follow: bytes left over are 5 at the first one
 unfoldable pub closed : ℕ → Walked → Result (List Row)
 closed end w = unless (eqb (w .next) end) (refused leftOver (w .next)) (accepted (w .rows))
@@ -69,13 +62,13 @@ closed end w = unless (eqb (w .next) end) (refused leftOver (w .next)) (accepted
 unfoldable pub rowsOf : Part → Result (List Row)
 rowsOf m = unless (headerOk m) (refused badHeader 0) (andThen (walk m (firstPlace m) 1 (parameterCount m)) (closed (m .end)))
 
--- the rows of a message: 1, then the part's
-unfoldable pub scan : List ℕ → ℕ → Result (List Row)
-scan buf len = unless (lengthOk buf len) (refused badLength 0) (rowsOf (partOf buf len))
+-- the rows of a message: 1 and 18, then the part's
+unfoldable pub scan : Layout → List ℕ → ℕ → Result (List Row)
+scan l buf len = andThen (located l buf len) rowsOf
 
 -- CHECK: the number of structures, nested ones included
-unfoldable pub check : List ℕ → ℕ → Result ℕ
-check buf len = andThen (scan buf len) (λ rows. accepted (length rows))
+unfoldable pub check : Layout → List ℕ → ℕ → Result ℕ
+check l buf len = andThen (scan l buf len) (λ rows. accepted (length rows))
 
 -- how many rows have the type k
 unfoldable pub countOf : ℕ → List Row → ℕ
@@ -96,16 +89,17 @@ tallyOf (accepted rows) = countsFrom types 0 rows
 tallyOf (refused n p) = replicate types 0
 
 -- TALLY: all zero if the message is refused; the refusal itself is the check's
-unfoldable pub tally : List ℕ → ℕ → List ℕ
-tally buf len = tallyOf (scan buf len)
+unfoldable pub tally : Layout → List ℕ → ℕ → List ℕ
+tally l buf len = tallyOf (scan l buf len)
 
 -- a row and the place behind that one structure
 pub record Stepped : Type 0 where
   pub row : Row
   pub next : ℕ
 
--- ONE STRUCTURE AT A TIME: for any place and depth the row there and the place behind, or 1, 3 or 4
-unfoldable pub step : List ℕ → ℕ → ℕ → ℕ → Result Stepped
-step buf len p d =
-    unless (lengthOk buf len) (refused badLength 0)
-    (andThen (structureAt (partOf buf len) p d) (λ r. accepted (record { row = r; next = p + r .size })))
+abbrev pub stepIn : Part → ℕ → ℕ → Result Stepped
+stepIn m p d = andThen (structureAt m p d) (λ r. accepted (record { row = r; next = p + r .size }))
+
+-- ONE STRUCTURE AT A TIME: for any place and depth the row there and the place behind, or 1 or 18, then 3 or 4
+unfoldable pub step : Layout → List ℕ → ℕ → ℕ → ℕ → Result Stepped
+step l buf len p d = andThen (located l buf len) (λ m. stepIn m p d)

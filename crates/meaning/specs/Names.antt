@@ -80,6 +80,16 @@ abbrev pub «MQCC_OK» : ℕ
 abbrev pub «MQRC_NONE» : ℕ
 «MQRC_NONE» = 0
 
+-- the embedded header: its version; its length, and that together with a PCF header's, which its StrucLength has at least
+abbrev pub «MQEPH_VERSION_1» : ℕ
+«MQEPH_VERSION_1» = 1
+
+abbrev pub embeddedHeaderLength : ℕ
+embeddedHeaderLength = 32
+
+abbrev pub «MQEPH_STRUC_LENGTH_FIXED» : ℕ
+«MQEPH_STRUC_LENGTH_FIXED» = 68
+
 -- group identifiers
 abbrev pub «MQGACF_TRACE_ROUTE» : ℕ
 «MQGACF_TRACE_ROUTE» = 8003
@@ -209,3 +219,6 @@ abbrev pub «MQFB_NOT_FORWARDED» : ℕ
 
 abbrev pub badSheet : ℕ
 badSheet = 17
+
+abbrev pub badEmbeddedHeader : ℕ
+badEmbeddedHeader = 18

@@ -5,11 +5,12 @@ use mathlib.Core.List.{List, [], _∷_, _++_, map}
 use lib.ListN.{length, getD}
 use lib.Dec.{leb, eqb}
 use lib.Bits.{bitAnd}
-use Rattle.meaning.specs.Bytes.{Part, num}
+use Rattle.meaning.specs.Bytes.{Part, partOf, num}
 use Rattle.meaning.specs.Names.{«MQCFT_INTEGER», «MQCFT_GROUP», «MQCFT_TRACE_ROUTE», «MQCFH_VERSION_3», «MQCMD_TRACE_ROUTE», «MQCFC_LAST», «MQCC_OK», «MQRC_NONE», «MQGACF_TRACE_ROUTE», «MQGACF_ACTIVITY», «MQROUTE_DETAIL_LOW», «MQROUTE_DETAIL_MEDIUM», «MQROUTE_DETAIL_HIGH», «MQROUTE_ACCUMULATE_NONE», «MQROUTE_ACCUMULATE_IN_MSG», «MQROUTE_ACCUMULATE_AND_REPLY», «MQROUTE_FORWARD_ALL», «MQROUTE_FORWARD_IF_SUPPORTED», «MQROUTE_DELIVER_YES», «MQROUTE_DELIVER_NO», Detail, RecordedActivities, UnrecordedActivities, DiscontinuityCount, MaxActivities, Accumulate, Forward, Deliver, attributes, noTraceHeader, noTraceRoute, badAttribute, badSheet}
 use Rattle.meaning.specs.Answer.{Result, accepted, refused, andThen, unless, consIf}
 use Rattle.meaning.specs.Structure.{Row, small}
-use Rattle.meaning.specs.Message.{headerType, version, command, msgSeqNumber, control, compCode, reason, parameterCount, partOf, scan}
+use Rattle.meaning.specs.Layout.{Layout, partIn, Embedding, embeddingOf}
+use Rattle.meaning.specs.Message.{headerType, version, command, msgSeqNumber, control, compCode, reason, parameterCount, scan}
 
 -- THE SHEET: eight identifiers
 unfoldable pub absent : ℕ → List ℕ → Bool
@@ -155,6 +156,7 @@ pub record Trace : Type 0 where
 -- what the caller states about a message
 pub record Terms : Type 0 where
   pub sheet : List ℕ
+  pub layout : Layout
 
 -- 8: some attribute is not there exactly once as an integer in its range
 unfoldable pub readMembers : List ℕ → Part → List Row → List Row → Result Trace
@@ -169,11 +171,20 @@ readRows sheet m rows =
     (unless (eqb (length (traceRoutes rows)) 1) (refused noTraceRoute 0)
     (readMembers sheet m rows (directMembers (traceRoutes rows))))
 
--- READ: 17, then 1 to 5, then 6 to 8
+-- READ: 17, then 1, 18 and 2 to 5, then 6 to 8
 unfoldable pub readTrace : Terms → List ℕ → ℕ → Result Trace
 readTrace tm buf len =
-    unless (sheetOk (tm .sheet)) (refused badSheet 0) (andThen (scan buf len) (readRows (tm .sheet) (partOf buf len)))
+    unless (sheetOk (tm .sheet)) (refused badSheet 0) (andThen (scan (tm .layout) buf len) (readRows (tm .sheet) (partIn (tm .layout) buf len)))
 
--- the eight values that Read gives
-unfoldable pub read : Terms → List ℕ → ℕ → Result (List ℕ)
-read tm buf len = andThen (readTrace tm buf len) (λ t. accepted (t .values))
+-- what Read gives: the eight values, the embedding, and the place of the user data, which is the part's end
+pub record Reading : Type 0 where
+  pub values : List ℕ
+  pub embedding : Embedding
+  pub userPlace : ℕ
+
+unfoldable pub read : Terms → List ℕ → ℕ → Result Reading
+read tm buf len = andThen (readTrace tm buf len) (λ t. accepted (record {
+  values = t .values;
+  embedding = embeddingOf (tm .layout .form) (partOf buf len);
+  userPlace = partIn (tm .layout) buf len .end;
+}))

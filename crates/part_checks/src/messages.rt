@@ -40,10 +40,11 @@ fn put_route(buffer: &mut [u8; 512], at: usize, members: u32) -> usize {
     put(buffer, h, &[3, 16, 1208, 0x1000])
 }
 
-// The trace with decoys of the corners, 312 bytes: an Activity group in front, with the identifier of RecordedActivities, an
-// integer 77 and two strings 77, `A B  ` and `C`; and a nested group with an integer 1202 behind the eight attributes.
-pub fn put_decoys(buffer: &mut [u8; 512]) {
-    let a = put(buffer, 0, &[10, 36, 3, 75, 1, 1, 0, 0, 2]);
+// The trace with decoys of the corners, 312 bytes from `at` on: an Activity group in front, with the identifier of
+// RecordedActivities, an integer 77 and two strings 77, `A B  ` and `C`; and a nested group with an integer 1202 behind the eight
+// attributes.
+pub fn put_decoys(buffer: &mut [u8; 512], at: usize) {
+    let a = put(buffer, at, &[10, 36, 3, 75, 1, 1, 0, 0, 2]);
     let b = put(buffer, a, &[20, 16, 8005, 4]);
     let c = put(buffer, b, &[3, 16, 1202, 900]);
     let d = put(buffer, c, &[3, 16, 77, 5]);
@@ -52,6 +53,16 @@ pub fn put_decoys(buffer: &mut [u8; 512]) {
     let g = put_route(buffer, f, 9);
     let h = put(buffer, g, &[20, 16, 99, 1]);
     put(buffer, h, &[3, 16, 1202, 800]);
+}
+
+// An embedded header in front of a part that ends at `end`, and user data behind it that look like two integers, 32 bytes.
+pub fn put_around(buffer: &mut [u8; 512], end: u32) {
+    put(
+        buffer,
+        0,
+        &[0x45504820, 1, end, 273, 819, 0x4D515354, 0x52202020, 0],
+    );
+    put(buffer, end as usize, &[3, 16, 77, 5, 3, 16, 77, 6]);
 }
 
 // A trace without Activity groups, 180 bytes.

@@ -8,6 +8,7 @@ use activities::activity_group;
 use activities::activity_span;
 use activities::name_span;
 use activities::named_string;
+use layout::Layout;
 
 // Whether two parts have the same bytes. A name lives as long as the shorter one of message and substitute, which is why both
 // parts have one lifetime here and below.
@@ -28,9 +29,9 @@ fn is_part<'a>(msg: &'a [u8], place: usize, length: usize, part: &'a [u8]) -> bo
 }
 
 // The n-th Activity group: the part against the span.
-pub fn show_group(msg: &[u8], len: usize, sheet: [u32; 8], n: usize) {
-    let span = activity_span(msg, len, sheet, n);
-    let part = activity_group(msg, len, sheet, n);
+pub fn show_group(msg: &[u8], len: usize, layout: Layout, sheet: [u32; 8], n: usize) {
+    let span = activity_span(msg, len, layout, sheet, n);
+    let part = activity_group(msg, len, layout, sheet, n);
     say_number(b"group ", n);
     say_number(b" at ", span.place);
     say_number(b" length ", part.len());
@@ -38,10 +39,10 @@ pub fn show_group(msg: &[u8], len: usize, sheet: [u32; 8], n: usize) {
 }
 
 // A named string: the part against the span, or the substitute whole, which ends in blanks and a zero byte.
-pub fn show_name(msg: &[u8], len: usize, sheet: [u32; 8], n: usize, id: u32) {
+pub fn show_name(msg: &[u8], len: usize, layout: Layout, sheet: [u32; 8], n: usize, id: u32) {
     let other = *b"(no name) \0 ";
-    let span = name_span(msg, len, sheet, n, id);
-    let part = named_string(msg, len, sheet, n, id, &other);
+    let span = name_span(msg, len, layout, sheet, n, id);
+    let part = named_string(msg, len, layout, sheet, n, id, &other);
     say_number(b"name ", n);
     say(b" [");
     say_bytes(part);

@@ -1,6 +1,8 @@
 // What a reader of a message finds, against one step at the same place.
 use crate::report::say_held;
 use crate::report::say_number;
+use layout::Layout;
+use layout::first_place;
 use pcf::Cursor;
 use pcf::Stepped;
 use pcf::step;
@@ -50,22 +52,30 @@ fn place_of(s: Stepped) -> usize {
     }
 }
 
+// The number of a refusal, or 0 for a structure.
+fn number_of(s: Stepped) -> u32 {
+    match s {
+        Stepped::Refused(r) => refusals::number(r),
+        Stepped::Structure(_, _) => 0,
+    }
+}
+
 // Whether the reader finds at a place, at the top level and too deep for a group, what one step finds.
-fn holds_at(msg: &[u8], place: usize) -> bool {
+fn holds_at(msg: &[u8], layout: Layout, place: usize) -> bool {
     let top = Cursor { place, depth: 1 };
     let deep = Cursor { place, depth: 9 };
-    same_step(look(msg, top), step(msg, msg.len(), top))
-        && same_step(look(msg, deep), step(msg, msg.len(), deep))
+    same_step(look(msg, layout, top), step(msg, msg.len(), layout, top))
+        && same_step(look(msg, layout, deep), step(msg, msg.len(), layout, deep))
 }
 
 // All structures of a message in reading order, and the end: each is behind the one before, be it a member of it or not.
-pub fn show_all(msg: &[u8]) {
-    let mut place = 36;
+pub fn show_all(msg: &[u8], layout: Layout) {
+    let mut place = first_place(layout);
     let mut held = true;
     let mut left: u32 = 32;
     while 0 < left {
-        held = held && holds_at(msg, place);
-        place = behind(look(msg, Cursor { place, depth: 1 }), place);
+        held = held && holds_at(msg, layout, place);
+        place = behind(look(msg, layout, Cursor { place, depth: 1 }), place);
         left -= 1;
     }
     say_number(b"reader up to ", place);
@@ -73,10 +83,22 @@ pub fn show_all(msg: &[u8]) {
 }
 
 // The n-th structure of the top level against one step at its place.
-pub fn show_top(msg: &[u8], n: u32) {
-    let found = nth_top(msg, n);
+pub fn show_top(msg: &[u8], layout: Layout, n: u32) {
+    let found = nth_top(msg, layout, n);
     let place = place_of(found);
     say_number(b"top ", n as usize);
     say_number(b" at ", place);
-    say_held(same_step(found, step(msg, msg.len(), Cursor { place, depth: 1 })));
+    say_held(same_step(
+        found,
+        step(msg, msg.len(), layout, Cursor { place, depth: 1 }),
+    ));
+}
+
+// What the reader finds at a place of the top level: 0 for a structure, else the refusal.
+pub fn show_place(msg: &[u8], layout: Layout, place: usize) {
+    let at = Cursor { place, depth: 1 };
+    let found = look(msg, layout, at);
+    say_number(b"look at ", place);
+    say_number(b" gives ", number_of(found) as usize);
+    say_held(same_step(found, step(msg, msg.len(), layout, at)));
 }

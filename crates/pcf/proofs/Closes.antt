@@ -4,24 +4,27 @@ use mathlib.Core.List.{List, sum}
 use Prim.Native.Nat.{ℕ, _+_}
 use lib.ListN.{replicate}
 use borrow.Author.Tests.{eq-eqb, ne-eqb}
-use Rattle.meaning.specs.Bytes.{Part}
+use Rattle.meaning.specs.Bytes.{Part, partOf}
 use Rattle.meaning.specs.Names.{leftOver}
 use Rattle.meaning.specs.Answer.{accepted, refused, andThen}
 use Rattle.meaning.specs.Walk.{walked, walk}
-use Rattle.meaning.specs.Message.{partOf, closed, check, countsFrom, types}
+use Rattle.meaning.specs.Layout.{Layout}
+use Rattle.meaning.specs.Message.{closed, check, countsFrom, types}
 use Rattle.meaning.proofs.Walks.{walks}
 use Rattle.meaning.proofs.Tallies.{total-counts, walks-kinds}
 use Rattle.walk.specs.Tallies.{tallied}
-use Rattle.pcf.specs.Messages.{opened, RowsTallied}
+use Rattle.layout.specs.Layouts.{partAt}
+use Rattle.layout.specs.declared.part.Part.{Part as PartIn}
+use Rattle.pcf.specs.Messages.{opened, structureCount, RowsTallied}
 use Rattle.pcf.specs.declared.message.Checked.the-variants.{Sound}
 use Rattle.walk.proofs.Counting.{counted}
 use Rattle.walk.proofs.Counts.{came, told, halted}
 use Rattle.walk.proofs.Numbering.{Past, past-rows}
-use Rattle.pcf.proofs.Openings.{scan-opened}
+use Rattle.pcf.proofs.Openings.{walk-part, scan-opened}
 
 module _ (m : Part) (p d n : ℕ) where
   module _ (len q k : ℕ) (w : Past m p d n q k) where
-    -- it ends where the message does
+    -- it ends where the part does
     pub closed-end : q ≡ len → andThen (walk m p d n) (closed len) ≡ accepted (w .rows)
     unfolding closed
     closed-end e = rw (w .over, eq-eqb q len e) refl
@@ -57,21 +60,25 @@ module _ (m : Part) (p d n : ℕ) where
   counted-end len q u c e k s =
       rw (closed-end len q (sum _+_ 0 u) (c .past) e) (record { answer = rw (s, c .past .number) refl; counts = c .counts })
 
--- THE CHECK, by what comes before the structures and by the walk over them
-pub check-shut : (buf : List ℕ) (len k q : ℕ) → opened buf len ≡ refused k q → refused k q ≡ check buf len
+-- THE CHECK, by what comes before the structures, and by their number
+pub check-shut : (l : Layout) (buf : List ℕ) (len k q : ℕ) → opened l buf len ≡ refused k q → refused k q ≡ check l buf len
 unfolding check
-check-shut buf len k q e = rw (scan-opened buf len, e) refl
+check-shut l buf len k q e = rw (scan-opened l buf len, e) refl
 
-module _ (buf : List ℕ) (len n : ℕ) (e : opened buf len ≡ accepted n) where
-  pub check-fault : (k q : ℕ) → walk (partOf buf len) 36 1 n ≡ refused k q → refused k q ≡ check buf len
-  unfolding check
-  check-fault k q w = rw (scan-opened buf len, e, w) refl
+pub check-opened : (l : Layout) (buf : List ℕ) (len : ℕ) (m : Part) (n : ℕ) → opened l buf len ≡ accepted (record { part = m; count = n })
+    → structureCount m n ≡ check l buf len
+unfolding check
+check-opened l buf len m n e = rw (scan-opened l buf len, e) refl
 
-  module _ (q k : ℕ) (w : Past (partOf buf len) 36 1 n q k) where
-    pub check-end : q ≡ len → accepted k ≡ check buf len
-    unfolding check
-    check-end h = rw (scan-opened buf len, e, closed-end (partOf buf len) 36 1 n len q k w h, w .number) refl
+-- THE NUMBER, by the walk over the structures
+module _ (buf : List ℕ) (p : PartIn) (n : ℕ) where
+  pub number-fault : (k q : ℕ) → walk (partOf buf (p .end)) (p .start + 36) 1 n ≡ refused k q → refused k q ≡ structureCount (partAt buf p) n
+  number-fault k q w = rw (walk-part buf p (p .start + 36) 1 n, w) refl
 
-    pub check-long : (q ≡ len → ⊥) → refused leftOver q ≡ check buf len
-    unfolding check
-    check-long h = rw (scan-opened buf len, e, closed-long (partOf buf len) 36 1 n len q k w h) refl
+  module _ (q k : ℕ) (w : Past (partOf buf (p .end)) (p .start + 36) 1 n q k) where
+    pub number-end : q ≡ p .end → accepted k ≡ structureCount (partAt buf p) n
+    number-end h =
+        rw (walk-part buf p (p .start + 36) 1 n, closed-end (partOf buf (p .end)) (p .start + 36) 1 n (p .end) q k w h, w .number) refl
+
+    pub number-long : (q ≡ p .end → ⊥) → refused leftOver q ≡ structureCount (partAt buf p) n
+    number-long h = rw (walk-part buf p (p .start + 36) 1 n, closed-long (partOf buf (p .end)) (p .start + 36) 1 n (p .end) q k w h) refl

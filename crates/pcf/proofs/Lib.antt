@@ -1,3 +1,3 @@
 pub mod Openings
 mod Sums
-mod Closes
+pub mod Closes

@@ -2,63 +2,85 @@
 use mathlib.Core.Path.{_≡_, refl, sym, ap, _∙_}
 use mathlib.Core.Bool.{Bool, true, false}
 use mathlib.Core.List.{List}
-use Prim.Native.Nat.{ℕ}
+use Prim.Native.Nat.{ℕ, _+_}
 use native.Mathlib.Omega.{arith}
-use Rattle.meaning.specs.Bytes.{number, num}
-use Rattle.meaning.specs.Names.{badLength, badHeader}
+use Rattle.meaning.specs.Bytes.{Part, partOf, number, num}
+use Rattle.meaning.specs.Names.{badHeader}
 use Rattle.meaning.specs.Answer.{Result, accepted, refused, andThen}
+use Rattle.meaning.specs.Layout.{Layout, located}
+use Rattle.meaning.specs.Message.{parameterCount, headerOk, rowsOf, scan}
 use Rattle.meaning.specs.Walk.{walk}
-use Rattle.meaning.specs.Message.{parameterCount, headerOk, partOf, lengthOk, closed, rowsOf, scan}
-use Rattle.meaning.proofs.Tests.{unless-accepted}
+use Rattle.meaning.proofs.Fuel.{walk-from}
+use Rattle.meaning.proofs.Tests.{unless-accepted, then-accepted}
 use Rattle.meaning.proofs.Parts.{num-part}
-use Rattle.meaning.proofs.Scans.{Sized, sized, header-part}
-use Rattle.pcf.specs.Messages.{opened, openedOf}
+use Rattle.meaning.proofs.Layouts.{inside}
+use Rattle.layout.specs.Layouts.{partAt, locatedOf}
+use Rattle.layout.specs.declared.part.Part.{Part as PartIn}
+use Rattle.layout.specs.declared.part.Located.{Located}
+use Rattle.pcf.specs.Messages.{Opened, openedIn, opened, openedOf, structuresOf, Reaches}
 use Rattle.pcf.specs.declared.message.Opening.{Opening}
 
-module _ (buf : List ℕ) (len : ℕ) where
-  pub unsized : lengthOk buf len ≡ false → refused badLength 0 ≡ opened buf len
+-- the walk is over the bytes up to the part's end, wherever it starts
+pub walk-part : (buf : List ℕ) (p : PartIn) (at d n : ℕ) → walk (partAt buf p) at d n ≡ walk (partOf buf (p .end)) at d n
+walk-part buf p at d n = walk-from (p .start) (partOf buf (p .end)) at d n
+
+module _ (l : Layout) (buf : List ℕ) (len : ℕ) where
+  pub shut : (k q : ℕ) → located l buf len ≡ refused k q → refused k q ≡ opened l buf len
   unfolding opened
-  unsized e = rw e refl
+  shut k q e = rw e refl
 
-  module _ (e : lengthOk buf len ≡ true) where
-    -- the header by its own bytes
-    header : headerOk (partOf buf len) ≡ headerOk (partOf buf 36)
-    header = header-part buf len (sized buf len e .least)
+  pub reaches : (p : PartIn) → located l buf len ≡ accepted (partAt buf p) → Reaches buf p
+  reaches p e =
+      let i = inside l buf len (partAt buf p) e in
+      record { room = i .room; there = omega (arith, i .within, i .there); most = omega (arith, i .within, i .most) }
 
-    pub unheaded : headerOk (partOf buf 36) ≡ false → refused badHeader 0 ≡ opened buf len
-    unfolding opened
-    unheaded h = rw (e, header, h) refl
+  module _ (p : PartIn) (e : located l buf len ≡ accepted (partAt buf p)) where
+    pub unheaded : headerOk (partAt buf p) ≡ false → refused badHeader 0 ≡ opened l buf len
+    unfolding opened openedIn
+    unheaded h = rw (e, h) refl
 
-    pub headed : headerOk (partOf buf 36) ≡ true → (n : ℕ) → n ≡ number buf 32 → accepted n ≡ opened buf len
-    unfolding opened
+    pub headed : headerOk (partAt buf p) ≡ true → (n : ℕ) → n ≡ number buf (p .start + 32)
+        → accepted (record { part = partAt buf p; count = n }) ≡ opened l buf len
+    unfolding opened openedIn
     headed h n f =
-        let g : num (partOf buf len) 32 ≡ n = num-part buf len 32 (omega (arith, sized buf len e .least)) ∙ sym f in
-        rw (e, header, h, g) refl
+        let g : num (partAt buf p) (p .start + 32) ≡ n = num-part buf (p .end) (p .start + 32) (omega (arith, reaches p e .room)) ∙ sym f in
+        rw (e, h, g) refl
 
-  -- a message that was opened has its length in order, and a sound header with this count
-  pub opened-sized : (n : ℕ) → opened buf len ≡ accepted n → Sized buf len
-  unfolding opened
-  opened-sized n e = sized buf len (unless-accepted (lengthOk buf len) badLength 0 _ n e .0)
+  -- a part that was opened was located, and has a sound header with this count
+  pub record Begun (o : Opened) : Type 0 where
+    pub lies : located l buf len ≡ accepted (o .part)
+    pub sound : headerOk (o .part) ≡ true
+    pub counts : parameterCount (o .part) ≡ o .count
 
-  pub opened-header : (n : ℕ) → opened buf len ≡ accepted n → (headerOk (partOf buf len) ≡ true) × (n ≡ number buf 32)
-  unfolding opened
-  opened-header n e =
-      let s = unless-accepted (lengthOk buf len) badLength 0 _ n e in
-      let h = unless-accepted (headerOk (partOf buf len)) badHeader 0 _ n (s .1) in
-      let c : parameterCount (partOf buf len) ≡ n = (let z = h .1 in cc) in
-      (h .0, sym c ∙ num-part buf len 32 (omega (arith, sized buf len (s .0) .least)))
+  pub begun : (o : Opened) → opened l buf len ≡ accepted o → Begun o
+  unfolding opened openedIn
+  begun o e =
+      let a = then-accepted (located l buf len) openedIn o e in
+      let h = unless-accepted (headerOk (a .0)) badHeader 0 _ o (a .2) in
+      let q : _≡_ {A = Opened} (record { part = a .0; count = parameterCount (a .0) }) o = (let z = h .1 in cc) in
+      let m : a .0 ≡ o .part = ap (λ (x : Opened). x .part) q in
+      record {
+        lies = a .1 ∙ ap accepted m;
+        sound = ap headerOk (sym m) ∙ h .0;
+        counts = ap parameterCount (sym m) ∙ ap (λ (x : Opened). x .count) q;
+      }
 
   -- its structures come next, and nothing may follow
-  pub scan-opened : scan buf len ≡ andThen (opened buf len) (λ n. andThen (walk (partOf buf len) 36 1 n) (closed len))
-  unfolding scan rowsOf opened
-  scan-opened = go (lengthOk buf len) refl (headerOk (partOf buf len)) refl
+  pub scan-opened : scan l buf len ≡ andThen (opened l buf len) (λ o. structuresOf (o .part) (o .count))
+  unfolding scan opened rowsOf openedIn
+  scan-opened = go (located l buf len)
     where
-      go : (b : Bool) → lengthOk buf len ≡ b → (h : Bool) → headerOk (partOf buf len) ≡ h
-          → scan buf len ≡ andThen (opened buf len) (λ n. andThen (walk (partOf buf len) 36 1 n) (closed len))
-      go false e h f = rw e refl
-      go true e false f = rw (e, f) refl
-      go true e true f = rw (e, f) refl
+      rows : (m : Part) (b : Bool) → headerOk m ≡ b → rowsOf m ≡ andThen (openedIn m) (λ o. structuresOf (o .part) (o .count))
+      rows m true e = rw e refl
+      rows m false e = rw e refl
 
--- what comes before the structures
-pub opened-as : {f g : Opening} {x : Result ℕ} → openedOf f ≡ x → f ≡ g → x ≡ openedOf g
-opened-as e h = sym e ∙ ap openedOf h
+      go : (r : Result Part) → andThen r rowsOf ≡ andThen (andThen r openedIn) (λ o. structuresOf (o .part) (o .count))
+      go (accepted m) = rows m (headerOk m) refl
+      go (refused k q) = refl
+
+-- what was located, and what was opened
+pub located-as : (buf : List ℕ) {f g : Located} {x : Result Part} → locatedOf buf f ≡ x → f ≡ g → x ≡ locatedOf buf g
+located-as buf e h = sym e ∙ ap (locatedOf buf) h
+
+pub opened-as : (buf : List ℕ) {f g : Opening} {x : Result Opened} → openedOf buf f ≡ x → f ≡ g → x ≡ openedOf buf g
+opened-as buf e h = sym e ∙ ap (openedOf buf) h

@@ -3,12 +3,11 @@ mod message;
 
 pub use message::Checked;
 pub use message::Cursor;
-pub use message::HEADER;
-pub use message::MOST_BYTES;
 pub use message::Opening;
 pub use message::Stepped;
 pub use message::Tallied;
 pub use message::check;
 pub use message::opened;
 pub use message::step;
+pub use message::structure_count;
 pub use message::tally;

@@ -1,4 +1,9 @@
 // Whole messages: check, tally, and the walk one structure at a time.
+use layout::HEADER;
+use layout::Layout;
+use layout::Located;
+use layout::Part;
+use layout::locate;
 use refusals::Refusal;
 use structure::Found;
 use structure::Row;
@@ -11,30 +16,21 @@ use walk::siblings;
 use wire::number_at;
 ghost use mathlib.Core.Path.{_≡_};
 ghost use mathlib.Core.List.{sum};
-ghost use Prim.Native.Nat.{_+_, _≤_, _<_};
-ghost use lib.ListN.{length};
-ghost use Rattle.meaning.specs.Bytes.{number};
-ghost use Rattle.meaning.specs.Answer.{andThen};
-ghost use Rattle.meaning.specs.Walk.{walk};
-ghost use Rattle.meaning.specs.Message.{headerOk, partOf, lengthOk, closed, check, step};
+ghost use Prim.Native.Nat.{_+_, _<_};
+ghost use Rattle.meaning.specs.Message.{headerOk, check, step};
 ghost use Rattle.refusals.specs.Refusals.{refusal};
-ghost use Rattle.pcf.specs.Messages.{checkedOf, opened, openedOf, steppedOf, RowsTallied, TalliedAs};
+ghost use Rattle.layout.specs.Layouts.{layoutOf, partAt};
+ghost use Rattle.pcf.specs.Messages.{checkedOf, opened, openedOf, steppedOf, structuresOf, structureCount, Reaches, HeaderRead, RowsTallied, TalliedAs};
 
-// The most bytes of a message.
-pub const MOST_BYTES: usize = 65536;
-
-// The header's bytes: no message has fewer, and the first structure is behind them.
-pub const HEADER: usize = 36;
-
-// What a check finds: the number of structures, nested ones included, or 1 to 5.
+// What a check finds: the number of structures, nested ones included, or 1, 18, or 2 to 5.
 pub enum Checked {
     Sound(u32),
     Refused(Refusal),
 }
 
-// The header's number of structures, or 1 or 2.
+// The part of a message and its header's number of structures, or 1, 18 or 2.
 pub enum Opening {
-    Count(u32),
+    Sound(Part, u32),
     Refused(Refusal),
 }
 
@@ -50,26 +46,19 @@ pub struct Cursor {
     pub depth: u32,
 }
 
-// One structure and the place behind it, or 1, 3 or 4.
+// One structure and the place behind it, or 1 or 18, then 3 or 4.
 pub enum Stepped {
     Structure(Row, usize),
     Refused(Refusal),
 }
 
-// A message is no longer than its buffer and 65,536 bytes, and has a header.
-fn length_ok(msg: &[u8], len: usize) -> bool
-    ensures { λ r. ⌜ r ≡ lengthOk (now (msg .entry)) len ⌝ }
-{
-    len <= msg.len() && (len <= MOST_BYTES && HEADER <= len)
-}
-
 // StrucLength 36, Version 1 to 3, ParameterCount below 2^31; `count` is the ParameterCount.
-fn header_ok(msg: &[u8], count: u32) -> bool
-    requires { ⌜ (36 ≤ length (now msg)) × (count ≡ number (now msg) 32) ⌝ }
-    ensures { λ r. ⌜ r ≡ headerOk (partOf (now (msg .entry)) 36) ⌝ }
+fn header_ok(msg: &[u8], part: Part, count: u32) -> bool
+    requires { ⌜ HeaderRead (now msg) part count ⌝ }
+    ensures { λ r. ⌜ r ≡ headerOk (partAt (now (msg .entry)) part) ⌝ }
 {
-    let size = number_at(msg, 4);
-    let version = number_at(msg, 8);
+    let size = number_at(msg, part.start + 4);
+    let version = number_at(msg, part.start + 8);
     size == 36 && (1 <= version && (version <= 3 && count < TWO_TO_31))
 }
 
@@ -97,17 +86,18 @@ fn refused(r: Refusal) -> Tallied
     }
 }
 
-// A message with a sound header: all its structures are walked over, and nothing may follow.
-fn structures(msg: &[u8], len: usize, count: u32) -> Tallied
-    requires { ⌜ (len ≤ length (now msg)) × (len ≤ 65536) ⌝ }
-    ensures { λ t. ⌜ RowsTallied (andThen (walk (partOf (now (msg .entry)) len) 36 1 count) (closed len)) t ⌝ }
+// A part with a sound header: all its structures are walked over, and nothing may follow.
+fn structures(msg: &[u8], part: Part, count: u32) -> Tallied
+    requires { ⌜ Reaches (now msg) part ⌝ }
+    ensures { λ t. ⌜ RowsTallied (structuresOf (partAt (now (msg .entry)) part) count) t ⌝ }
 {
-    let walked = siblings(msg, len, HEADER, 1, count, [0u32; 27]);
+    let end = part.end;
+    let walked = siblings(msg, end, part.start + HEADER, 1, count, [0u32; 27]);
     let ended = walked.ended;
     match ended {
         Ended::Refused(r) => refused(r),
         Ended::Behind(at) => {
-            if at == len {
+            if at == end {
                 let counts = walked.tally;
                 Tallied {
                     answer: Checked::Sound(total(counts)),
@@ -120,72 +110,83 @@ fn structures(msg: &[u8], len: usize, count: u32) -> Tallied
     }
 }
 
-// What comes before the structures: the ParameterCount of a sound header, or 1 or 2.
-pub fn opened(msg: &[u8], len: usize) -> Opening
-    ensures { λ r. ⌜ openedOf r ≡ opened (now (msg .entry)) len ⌝ }
+// What comes before the structures: the part and the ParameterCount of its sound header, or 1, 18 or 2.
+pub fn opened(msg: &[u8], len: usize, layout: Layout) -> Opening
+    ensures { λ r. ⌜ openedOf (now (msg .entry)) r ≡ opened (layoutOf layout) (now (msg .entry)) len ⌝ }
 {
-    if length_ok(msg, len) {
-        let count = number_at(msg, 32);
-        if header_ok(msg, count) {
-            Opening::Count(count)
-        } else {
-            Opening::Refused(Refusal::BadHeader)
+    let found = locate(msg, len, layout);
+    match found {
+        Located::Refused(r) => Opening::Refused(r),
+        Located::At(part) => {
+            let count = number_at(msg, part.start + 32);
+            if header_ok(msg, part, count) {
+                Opening::Sound(part, count)
+            } else {
+                Opening::Refused(Refusal::BadHeader)
+            }
         }
-    } else {
-        Opening::Refused(Refusal::BadLength)
     }
 }
 
 // TALLY: how many structures of each type a message has, beside the check's answer.
-pub fn tally(msg: &[u8], len: usize) -> Tallied
-    ensures { λ t. ⌜ TalliedAs (now (msg .entry)) len t ⌝ }
+pub fn tally(msg: &[u8], len: usize, layout: Layout) -> Tallied
+    ensures { λ t. ⌜ TalliedAs (layoutOf layout) (now (msg .entry)) len t ⌝ }
 {
-    let opening = opened(msg, len);
+    let opening = opened(msg, len, layout);
     match opening {
         Opening::Refused(r) => refused(r),
-        Opening::Count(count) => structures(msg, len, count),
+        Opening::Sound(part, count) => structures(msg, part, count),
+    }
+}
+
+// The number of structures of a part with a sound header, which they fill, or 3, 4 or 5. The check and the listing ask it, each
+// behind `opened`: so the check is one function with one caller, which is compiled into that.
+pub fn structure_count(msg: &[u8], part: Part, count: u32) -> Checked
+    requires { ⌜ Reaches (now msg) part ⌝ }
+    ensures { λ r. ⌜ checkedOf r ≡ structureCount (partAt (now (msg .entry)) part) count ⌝ }
+{
+    let passed = over(msg, part.end, part.start + HEADER, 1, count);
+    match passed {
+        Passed::Refused(r) => Checked::Refused(r),
+        Passed::Behind(at, n) => {
+            if at == part.end {
+                Checked::Sound(n)
+            } else {
+                Checked::Refused(Refusal::LeftOver(at))
+            }
+        }
     }
 }
 
 // CHECK: the number of structures of a message, or the refusal.
-pub fn check(msg: &[u8], len: usize) -> Checked
-    ensures { λ r. ⌜ checkedOf r ≡ check (now (msg .entry)) len ⌝ }
+pub fn check(msg: &[u8], len: usize, layout: Layout) -> Checked
+    ensures { λ r. ⌜ checkedOf r ≡ check (layoutOf layout) (now (msg .entry)) len ⌝ }
 {
-    let opening = opened(msg, len);
+    let opening = opened(msg, len, layout);
     match opening {
         Opening::Refused(r) => Checked::Refused(r),
-        Opening::Count(count) => {
-            let passed = over(msg, len, HEADER, 1, count);
-            match passed {
-                Passed::Refused(r) => Checked::Refused(r),
-                Passed::Behind(at, n) => {
-                    if at == len {
-                        Checked::Sound(n)
-                    } else {
-                        Checked::Refused(Refusal::LeftOver(at))
-                    }
-                }
-            }
-        }
+        Opening::Sound(part, count) => structure_count(msg, part, count),
     }
 }
 
 // ONE STRUCTURE AT A TIME: the structure at any place, taken to have any depth, and the place behind it. For a group that is
 // the place of its first member.
-pub fn step(msg: &[u8], len: usize, at: Cursor) -> Stepped
-    ensures { λ r. ⌜ steppedOf r ≡ step (now (msg .entry)) len (at .place) (at .depth) ⌝ }
+pub fn step(msg: &[u8], len: usize, layout: Layout, at: Cursor) -> Stepped
+    ensures { λ r. ⌜ steppedOf r ≡ step (layoutOf layout) (now (msg .entry)) len (at .place) (at .depth) ⌝ }
 {
     let place = at.place;
-    if length_ok(msg, len) {
-        let found = structure_at(msg, len, place, at.depth);
-        match found {
-            Found::Structure(row) => {
-                let next = place + row.size as usize;
-                Stepped::Structure(row, next)
+    let found = locate(msg, len, layout);
+    match found {
+        Located::Refused(r) => Stepped::Refused(r),
+        Located::At(part) => {
+            let met = structure_at(msg, part.end, place, at.depth);
+            match met {
+                Found::Structure(row) => {
+                    let next = place + row.size as usize;
+                    Stepped::Structure(row, next)
+                }
+                Found::Refused(r) => Stepped::Refused(r),
             }
-            Found::Refused(r) => Stepped::Refused(r),
         }
-    } else {
-        Stepped::Refused(Refusal::BadLength)
     }
 }

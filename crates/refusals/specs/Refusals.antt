@@ -1,10 +1,10 @@
 -- The number and place of each refusal, and whether a reply is owed.
 use Prim.Native.Nat.{ℕ}
 use mathlib.Core.Bool.{Bool, false}
-use Rattle.meaning.specs.Names.{badLength, badHeader, badStructure, tooDeep, leftOver, noTraceHeader, noTraceRoute, badAttribute, badGroup, «MQFB_MAX_ACTIVITIES», counterFull, noRoom, reportTooShort, «MQFB_UNSUPPORTED_DELIVERY», «MQFB_UNSUPPORTED_FORWARDING», «MQFB_NOT_FORWARDED», badSheet}
+use Rattle.meaning.specs.Names.{badLength, badHeader, badStructure, tooDeep, leftOver, noTraceHeader, noTraceRoute, badAttribute, badGroup, «MQFB_MAX_ACTIVITIES», counterFull, noRoom, reportTooShort, «MQFB_UNSUPPORTED_DELIVERY», «MQFB_UNSUPPORTED_FORWARDING», «MQFB_NOT_FORWARDED», badSheet, badEmbeddedHeader}
 use Rattle.meaning.specs.Answer.{Result, refused}
 use Rattle.refusals.specs.declared.Refusal.{Refusal}
-use Rattle.refusals.specs.declared.Refusal.the-variants.{BadLength, BadHeader, BadStructure, TooDeep, LeftOver, NoTraceHeader, NoTraceRoute, BadAttribute, BadGroup, MaxActivities, CounterFull, NoRoom, ReportTooShort, UnsupportedDelivery, UnsupportedForwarding, NotForwarded, BadSheet}
+use Rattle.refusals.specs.declared.Refusal.the-variants.{BadLength, BadHeader, BadStructure, TooDeep, LeftOver, NoTraceHeader, NoTraceRoute, BadAttribute, BadGroup, MaxActivities, CounterFull, NoRoom, ReportTooShort, UnsupportedDelivery, UnsupportedForwarding, NotForwarded, BadSheet, BadEmbeddedHeader}
 
 abbrev pub numberOf : Refusal → ℕ
 numberOf BadLength = badLength
@@ -24,6 +24,7 @@ numberOf UnsupportedDelivery = «MQFB_UNSUPPORTED_DELIVERY»
 numberOf UnsupportedForwarding = «MQFB_UNSUPPORTED_FORWARDING»
 numberOf NotForwarded = «MQFB_NOT_FORWARDED»
 numberOf BadSheet = badSheet
+numberOf BadEmbeddedHeader = badEmbeddedHeader
 
 -- 3, 4 and 5 have a place of their own
 abbrev pub placeOf : Refusal → ℕ
@@ -44,6 +45,7 @@ placeOf UnsupportedDelivery = 0
 placeOf UnsupportedForwarding = 0
 placeOf NotForwarded = 0
 placeOf BadSheet = 0
+placeOf BadEmbeddedHeader = 0
 
 -- a reply is owed: only 10 can say so
 abbrev pub owed : Refusal → Bool
@@ -64,6 +66,7 @@ owed UnsupportedDelivery = false
 owed UnsupportedForwarding = false
 owed NotForwarded = false
 owed BadSheet = false
+owed BadEmbeddedHeader = false
 
 -- the refusal as an answer of the meaning
 abbrev pub refusal : {A : Type 0} → Refusal → Result A

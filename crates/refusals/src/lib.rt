@@ -4,7 +4,7 @@ ghost use Rattle.refusals.specs.Refusals.{numberOf, placeOf, owed};
 
 // What an entry answers when it gives nothing. A case holds its place where the rules' table has one that is not 0.
 pub enum Refusal {
-    // 1: length above the buffer or 65,536, or below 36
+    // 1: length above the buffer or 65,536, or below 36, embedded 68
     BadLength,
     // 2: header not sound
     BadHeader,
@@ -38,6 +38,8 @@ pub enum Refusal {
     NotForwarded,
     // 17: sheet: number out of range or two equal
     BadSheet,
+    // 18: embedded header: identifier, Version, or a StrucLength below 68, above the message or no multiple of 4
+    BadEmbeddedHeader,
 }
 
 // The refusal's number.
@@ -62,6 +64,7 @@ pub fn number(r: Refusal) -> u32
         Refusal::UnsupportedForwarding => 15,
         Refusal::NotForwarded => 16,
         Refusal::BadSheet => 17,
+        Refusal::BadEmbeddedHeader => 18,
     }
 }
 

@@ -1,26 +1,31 @@
 -- What Read answers, in the meaning's terms.
-use Prim.Native.Nat.{ℕ}
-use mathlib.Core.List.{List}
 use Rattle.meaning.specs.Answer.{Result, accepted, refused}
+use Rattle.meaning.specs.Layout.{noEmbedding}
+use Rattle.meaning.specs.Trace.{Reading as Meant}
 use Rattle.refusals.specs.Refusals.{refusal}
+use Rattle.layout.specs.Layouts.{embeddingIn}
 use Rattle.trace.specs.Locations.{none}
 use Rattle.trace.specs.declared.location.Answer.{Answer}
 use Rattle.trace.specs.declared.location.Answer.the-variants.{Found, Refused}
 use Rattle.routing.specs.declared.Values.{Values}
 
--- the answer, and the array beside it
-pub record Reading : Type 0 where
-  pub answer : Result (List ℕ)
-  pub values : List ℕ
+-- the answer, and what stands beside it
+pub record Answered : Type 0 where
+  pub answer : Result Meant
+  pub beside : Meant
 
-abbrev pub reading : Result (List ℕ) → Reading
-reading (accepted v) = record { answer = accepted v; values = v }
-reading (refused k p) = record { answer = refused k p; values = none }
+-- all 0 if refused
+abbrev pub reading : Result Meant → Answered
+reading (accepted r) = record { answer = accepted r; beside = r }
+reading (refused k p) = record { answer = refused k p; beside = record { values = none; embedding = noEmbedding; userPlace = 0 } }
 
--- the values, if they were found
-abbrev pub given : Answer → List ℕ → Result (List ℕ)
-given Found v = accepted v
+-- what is beside the answer, if a trace was found
+abbrev pub given : Answer → Meant → Result Meant
+given Found r = accepted r
 given (Refused r) v = refusal r
 
-abbrev pub valuesOf : Values → Reading
-valuesOf r = record { answer = given (r .answer) (r .values); values = r .values }
+abbrev pub besideOf : Values → Meant
+besideOf r = record { values = r .values; embedding = embeddingIn (r .embedding); userPlace = r .user }
+
+abbrev pub valuesOf : Values → Answered
+valuesOf r = record { answer = given (r .answer) (besideOf r); beside = besideOf r }

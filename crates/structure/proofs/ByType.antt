@@ -6,11 +6,10 @@ use Prim.Native.Nat.{ℕ, _+_, _%_, _≤_, _<_}
 use native.Mathlib.Omega.{arith}
 use lib.Dec.{leb, ltb, eqb}
 use borrow.Author.Tests.{le-leb, lt-ltb, le-ltb, ne-eqb, eqb-true}
-use Rattle.meaning.specs.Bytes.{number, word}
+use Rattle.meaning.specs.Bytes.{partOf, number, word}
 use Rattle.meaning.specs.Names.{mostDepth, twoTo31, badStructure, tooDeep}
 use Rattle.meaning.specs.Answer.{Result, accepted, refused}
 use Rattle.meaning.specs.Structure.{small, lengthRule, structureAt}
-use Rattle.meaning.specs.Message.{partOf}
 use Rattle.meaning.proofs.Parts.{word-part}
 use Rattle.meaning.proofs.Tests.{clash, and-true, true-and, and-false, is-false}
 use Rattle.structure.specs.Rows.{Reach, reachOf, soundIn}

@@ -6,10 +6,9 @@ use Prim.Native.Nat.{ℕ, _+_, _%_, _≤_, _<_}
 use native.Mathlib.Omega.{arith}
 use lib.Dec.{leb, ltb, eqb}
 use borrow.Author.Tests.{le-leb, eq-eqb, ne-eqb, leb-true, ltb-true, ltb-false}
-use Rattle.meaning.specs.Bytes.{number, num, word}
+use Rattle.meaning.specs.Bytes.{partOf, number, num, word}
 use Rattle.meaning.specs.Names.{«MQCFT_GROUP», mostDepth}
 use Rattle.meaning.specs.Structure.{Row, judged, judge, structureAt}
-use Rattle.meaning.specs.Message.{partOf}
 use Rattle.meaning.proofs.Tests.{and-true, is-false}
 use Rattle.meaning.proofs.Structures.{rule-16}
 use Rattle.meaning.proofs.Parts.{num-part, word-part}

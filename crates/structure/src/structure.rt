@@ -11,7 +11,7 @@ ghost use lib.Dec.{eqb, ltb};
 ghost use lib.ListN.{length};
 ghost use Rattle.meaning.specs.Names.{«MQCFT_GROUP», mostDepth, twoTo31};
 ghost use Rattle.meaning.specs.Structure.{judged, structureAt};
-ghost use Rattle.meaning.specs.Message.{partOf};
+ghost use Rattle.meaning.specs.Bytes.{partOf};
 ghost use Rattle.structure.specs.Rules.{Fields};
 ghost use Rattle.structure.specs.Rows.{soundIn, rowOf, foundOf, reachOf, extentOf};
 

@@ -3,17 +3,19 @@ use mathlib.Core.Path.{_≡_, refl, sym, ap, _∙_, subst}
 use mathlib.Core.Bool.{Bool, true, false, _&&_}
 use mathlib.Core.List.{List, [], _∷_, append-nil}
 use Prim.Native.Nat.{ℕ, _+_, _≤_, _<_}
+use native.Mathlib.Nat.{add-assoc, add-zero}
 use native.Mathlib.Omega.{arith}
 use lib.ListN.{length, getD, take}
 use lib.Dec.{leb, eqb}
 use borrow.Author.Tests.{eqb-true, eq-eqb, ne-eqb, le-leb, lt-leb}
-use Rattle.meaning.specs.Bytes.{Part, number, num}
+use Rattle.meaning.specs.Bytes.{Part, partOf, number}
 use Rattle.meaning.specs.Names.{«MQGACF_TRACE_ROUTE», «MQGACF_ACTIVITY», badAttribute, badSheet, noTraceHeader, noTraceRoute, leftOver}
 use Rattle.meaning.specs.Answer.{Result, accepted, refused, andThen, unless}
 use Rattle.meaning.specs.Structure.{Row}
 use Rattle.meaning.specs.Walk.{Walked, walked, walk, rowsIn}
-use Rattle.meaning.specs.Message.{partOf, headerOk, closed, scan}
-use Rattle.meaning.specs.Trace.{Terms, Trace, sheetOk, traceFields, traceHeader, Top, groups, traceRoutes, directIn, directMembers, eachOnce, placesOf, valuesAt, inRange, readMembers, readRows, readTrace}
+use Rattle.meaning.specs.Layout.{Layout, partIn}
+use Rattle.meaning.specs.Message.{field, headerOk, closed, scan}
+use Rattle.meaning.specs.Trace.{Terms, Trace, sheetOk, traceFields, traceHeader, Top, groups, traceRoutes, directIn, directMembers, eachOnce, placesOf, valueAt, valuesAt, inRange, readMembers, readRows, readTrace}
 use Rattle.meaning.specs.Activity.{noGroup}
 use Rattle.meaning.specs.Compose.{headerFields, traceHeaderFields}
 use Rattle.meaning.proofs.Tests.{clash, and-true, and-false}
@@ -21,12 +23,15 @@ use Rattle.meaning.proofs.Walks.{Walks, walks, walks-as, walk-of, in-nil, tiles
 use Rattle.meaning.proofs.Parts.{num-part}
 use Rattle.meaning.proofs.Tops.{TopAt, all-at, all-groups, tops-at}
 use Rattle.attributes.specs.Terms.{termsOf}
-use Rattle.pcf.specs.Messages.{opened}
-use Rattle.pcf.proofs.Openings.{scan-opened, opened-sized}
+use Rattle.meaning.proofs.Layouts.{sized}
+use Rattle.layout.specs.Layouts.{partAt}
+use Rattle.layout.specs.declared.part.Part.{Part as PartIn}
+use Rattle.pcf.specs.Messages.{Opened, opened, structuresOf, Reaches}
+use Rattle.pcf.proofs.Openings.{walk-part, scan-opened, begun, reaches}
 use Rattle.header.specs.Headers.{fieldsOf, startsWith}
 use Rattle.trace.specs.Passing.{isSound}
 use Rattle.trace.specs.Groups.{wholeGroup, counted, Surveyed, surveyed}
-use Rattle.trace.specs.Locations.{Begun, Within, stop, found, attributesBy, attributesIn, judgedIn, Located, located, Readout, traced}
+use Rattle.trace.specs.Locations.{Begun, Within, stop, found, attributesBy, attributesIn, judgedIn, lying, Present, present, Readout, traced, tracedBy}
 use Rattle.trace.specs.declared.groups.Group.{Group}
 use Rattle.trace.specs.declared.groups.Counted.{Counted}
 use Rattle.header.specs.declared.Kind.the-variants.{Trace as trace}
@@ -48,17 +53,17 @@ module _ (m : Part) (p n : ℕ) where
   members-placed h r i = omega (arith, every-member r i .0)
 
 -- 8, by its two tests
-module _ (sheet : List ℕ) (m : Part) (members : List Row) (activity : Group) where
-  pub attributes-unfound : eachOnce sheet members ≡ false → stop badAttribute 0 ≡ attributesBy sheet m members activity
+module _ (sheet : List ℕ) (m : Part) (members : List Row) (activity : Group) (part : PartIn) where
+  pub attributes-unfound : eachOnce sheet members ≡ false → stop badAttribute 0 ≡ attributesBy sheet m members activity part
   unfolding attributesBy
   attributes-unfound e = rw e refl
 
   module _ (once : eachOnce sheet members ≡ true) (places values : List ℕ) (p : places ≡ placesOf sheet members) (v : values ≡ valuesAt m places) where
-    pub attributes-unranged : inRange values ≡ false → stop badAttribute 0 ≡ attributesBy sheet m members activity
+    pub attributes-unranged : inRange values ≡ false → stop badAttribute 0 ≡ attributesBy sheet m members activity part
     unfolding attributesBy
     attributes-unranged e = rw (← p, ← v, once, e) refl
 
-    pub attributes-found : inRange values ≡ true → found places values activity ≡ attributesBy sheet m members activity
+    pub attributes-found : inRange values ≡ true → found places values activity part ≡ attributesBy sheet m members activity part
     unfolding attributesBy
     attributes-found e = rw (← p, ← v, once, e) refl
 
@@ -67,21 +72,32 @@ and-right true = refl
 and-right false = refl
 
 -- 6: with a sound header, the eight fields and the count are the meaning's test
-module _ (msg : List ℕ) (len : ℕ) (least : 36 ≤ len) (sound : headerOk (partOf msg len) ≡ true) where
+module _ (msg : List ℕ) (part : PartIn) (least : part .start + 36 ≤ part .end) (sound : headerOk (partAt msg part) ≡ true) where
   abbrev m : Part
-  m = partOf msg len
+  m = partAt msg part
 
-  field-at : (at : ℕ) → at + 4 ≤ 36 → num m at ≡ number msg at
-  field-at at h = num-part msg len at (omega arith)
+  abbrev p : ℕ
+  p = part .start
 
-  size-36 : eqb (number msg 4) 36 ≡ true
+  field-at : (at : ℕ) → at + 4 ≤ 36 → field m at ≡ number msg (p + at)
+  field-at at h = num-part msg (part .end) (p + at) (omega arith)
+
+  size-36 : eqb (number msg (p + 4)) 36 ≡ true
   unfolding headerOk
-  size-36 = ap (λ (x : ℕ). eqb x 36) (sym (field-at 4 (omega arith))) ∙ (and-true (eqb (num m 4) 36) _ sound) .0
+  size-36 = ap (λ (x : ℕ). eqb x 36) (sym (field-at 4 (omega arith))) ∙ (and-true (eqb (field m 4) 36) _ sound) .0
 
-  pub fields-read : startsWith msg 0 (take 8 (fieldsOf trace)) ≡ traceFields m
-  unfolding startsWith headerFields traceHeaderFields traceFields
+  -- the fields stand four bytes apart
+  apart : startsWith msg p (take 8 (fieldsOf trace))
+      ≡ eqb (number msg (p + 0)) 10 && (eqb (number msg (p + 4)) 36 && (eqb (number msg (p + 8)) 3 && (eqb (number msg (p + 12)) 75
+      && (eqb (number msg (p + 16)) 1 && (eqb (number msg (p + 20)) 1 && (eqb (number msg (p + 24)) 0 && (eqb (number msg (p + 28)) 0 && true)))))))
+  unfolding startsWith headerFields traceHeaderFields
+  apart = simp (add-assoc, add-zero)
+
+  pub fields-read : startsWith msg p (take 8 (fieldsOf trace)) ≡ traceFields m
+  unfolding traceFields
   fields-read =
-      rw (
+      apart
+      ∙ rw (
         size-36,
         field-at 0 (omega arith),
         field-at 8 (omega arith),
@@ -90,20 +106,20 @@ module _ (msg : List ℕ) (len : ℕ) (least : 36 ≤ len) (sound : headerOk (pa
         field-at 20 (omega arith),
         field-at 24 (omega arith),
         field-at 28 (omega arith),
-        and-right (eqb (number msg 28) 0),
+        and-right (eqb (number msg (p + 28)) 0),
       ) refl
 
-  module _ (count : ℕ) (read : count ≡ number msg 32) where
+  module _ (count : ℕ) (read : count ≡ number msg (part .start + 32)) where
     pub no-count : count < 1 → traceHeader m ≡ false
     unfolding traceHeader
     no-count h =
-        let e : leb 1 (num m 32) ≡ false = lt-leb 1 (num m 32) (omega (arith, field-at 32 (omega arith))) in
+        let e : leb 1 (field m 32) ≡ false = lt-leb 1 (field m 32) (omega (arith, field-at 32 (omega arith))) in
         rw e (and-false (traceFields m))
 
-    pub some-count : 1 ≤ count → (b : Bool) → startsWith msg 0 (take 8 (fieldsOf trace)) ≡ b → traceHeader m ≡ b
+    pub some-count : 1 ≤ count → (b : Bool) → startsWith msg p (take 8 (fieldsOf trace)) ≡ b → traceHeader m ≡ b
     unfolding traceHeader
     some-count h b e =
-        let l : leb 1 (num m 32) ≡ true = le-leb 1 (num m 32) (omega (arith, field-at 32 (omega arith))) in
+        let l : leb 1 (field m 32) ≡ true = le-leb 1 (field m 32) (omega (arith, field-at 32 (omega arith))) in
         rw (l, sym fields-read ∙ e) (and-right b)
 
 -- 6, 7, 8 by their tests
@@ -117,7 +133,7 @@ module _ (sheet : List ℕ) (m : Part) (routes : Counted) (activity : Group) whe
     unfolding judgedIn
     judge-routes e = rw (header, ne-eqb (routes .count) 1 e) refl
 
-    pub judge-members : routes .count ≡ 1 → attributesIn sheet m (routes .group .inside) (routes .group .members) activity ≡ judgedIn sheet m routes activity
+    pub judge-members : routes .count ≡ 1 → attributesIn sheet m (routes .group .inside) (routes .group .members) activity (lying m) ≡ judgedIn sheet m routes activity
     unfolding judgedIn
     judge-members e = rw (header, eq-eqb (routes .count) 1 e) refl
 
@@ -148,19 +164,19 @@ module _ (m : Part) (p count : ℕ) (rows : List Row) (tree : Walks m p 1 count 
   unfolding counted
   route-members e = ap (λ (w : Result Walked). directIn (rowsIn w)) (nth-walk «MQGACF_TRACE_ROUTE» 0 (omega arith)) ∙ sym (one-group (traceRoutes rows) e)
 
-  traced-unless : (n : ℕ) (b : Bool) (k q : ℕ) (r : Result Trace) → traced n (unless b (refused k q) r) ≡ unless b (stop k q) (traced n r)
+  traced-unless : (n : ℕ) (b : Bool) (k q : ℕ) (r : Result Trace) → traced n m (unless b (refused k q) r) ≡ unless b (stop k q) (traced n m r)
   traced-unless n true k q r = refl
   traced-unless n false k q r = refl
 
   -- 8, as the meaning has it
   members-read : (sheet : List ℕ) (n : ℕ) (members : List Row)
-      → traced n (readMembers sheet m rows members) ≡ attributesBy sheet m members (counted «MQGACF_ACTIVITY» n rows .group)
+      → traced n m (readMembers sheet m rows members) ≡ attributesBy sheet m members (counted «MQGACF_ACTIVITY» n rows .group) (lying m)
   unfolding readMembers attributesBy
   members-read sheet n members = traced-unless n (eachOnce sheet members && inRange (valuesAt m (placesOf sheet members))) badAttribute 0 _
 
   -- 6, 7, 8, as the meaning has them
   pub rows-read : (sheet : List ℕ) (n : ℕ)
-      → traced n (readRows sheet m rows) ≡ judgedIn sheet m (counted «MQGACF_TRACE_ROUTE» 0 rows) (counted «MQGACF_ACTIVITY» n rows .group)
+      → traced n m (readRows sheet m rows) ≡ judgedIn sheet m (counted «MQGACF_TRACE_ROUTE» 0 rows) (counted «MQGACF_ACTIVITY» n rows .group)
   unfolding readRows judgedIn counted
   rows-read sheet n =
       traced-unless n (traceHeader m) noTraceHeader 0 _
@@ -168,9 +184,9 @@ module _ (m : Part) (p count : ℕ) (rows : List Row) (tree : Walks m p 1 count 
       (traced-unless n (eqb (length (traceRoutes rows)) 1) noTraceRoute 0 _ ∙ go (eqb (length (traceRoutes rows)) 1) refl)
     where
       go : (b : Bool) → eqb (length (traceRoutes rows)) 1 ≡ b
-          → unless b (stop noTraceRoute 0) (traced n (readMembers sheet m rows (directMembers (traceRoutes rows))))
+          → unless b (stop noTraceRoute 0) (traced n m (readMembers sheet m rows (directMembers (traceRoutes rows))))
           ≡ unless b (stop noTraceRoute 0)
-          (attributesIn sheet m (counted «MQGACF_TRACE_ROUTE» 0 rows .group .inside) (counted «MQGACF_TRACE_ROUTE» 0 rows .group .members) (counted «MQGACF_ACTIVITY» n rows .group))
+          (attributesIn sheet m (counted «MQGACF_TRACE_ROUTE» 0 rows .group .inside) (counted «MQGACF_TRACE_ROUTE» 0 rows .group .members) (counted «MQGACF_ACTIVITY» n rows .group) (lying m))
       go true e = members-read sheet n (directMembers (traceRoutes rows)) ∙ rw (route-members (eqb-true (length (traceRoutes rows)) 1 e)) refl
       go false e = refl
 
@@ -205,84 +221,111 @@ told-refused n (refused k′ p) s k q e f =
 
 -- READ, by the tests that come first
 module _ (tm : Terms) (buf : List ℕ) (len n : ℕ) where
-  pub trace-unsheeted : sheetOk (tm .sheet) ≡ false → stop badSheet 0 ≡ traced n (readTrace tm buf len)
+  pub trace-unsheeted : sheetOk (tm .sheet) ≡ false → stop badSheet 0 ≡ tracedBy n tm buf len
   unfolding readTrace
   trace-unsheeted e = rw e refl
 
   module _ (ok : sheetOk (tm .sheet) ≡ true) where
-    trace-unscanned : (k q : ℕ) → scan buf len ≡ refused k q → stop k q ≡ traced n (readTrace tm buf len)
+    trace-unscanned : (k q : ℕ) → scan (tm .layout) buf len ≡ refused k q → stop k q ≡ tracedBy n tm buf len
     unfolding readTrace
     trace-unscanned k q e = rw (ok, e) refl
 
-    pub trace-unopened : (k q : ℕ) → opened buf len ≡ refused k q → stop k q ≡ traced n (readTrace tm buf len)
-    trace-unopened k q e = trace-unscanned k q (scan-opened buf len ∙ rw e refl)
+    pub trace-unopened : (k q : ℕ) → opened (tm .layout) buf len ≡ refused k q → stop k q ≡ tracedBy n tm buf len
+    trace-unopened k q e = trace-unscanned k q (scan-opened (tm .layout) buf len ∙ rw e refl)
 
 -- WHAT THE TESTS before the structures have shown, and the survey of these
-pub record Gone (sheet buf : List ℕ) (len n count : ℕ) (s : Surveyed) : Type 0 where
-  pub begun : Begun sheet buf len count
-  pub surveys : s ≡ surveyed n (walk (partOf buf len) 36 1 count)
+pub record Gone (l : Layout) (sheet buf : List ℕ) (len : ℕ) (part : PartIn) (n count : ℕ) (s : Surveyed) : Type 0 where
+  pub begun : Begun l sheet buf len part count
+  pub surveys : s ≡ surveyed n (walk (partOf buf (part .end)) (part .start + 36) 1 count)
 
-module _ {sheet buf : List ℕ} {len n count : ℕ} {s : Surveyed} (g : Gone sheet buf len n count s) where
-  scanned : scan buf len ≡ andThen (walk (partOf buf len) 36 1 count) (closed len)
-  scanned = scan-opened buf len ∙ rw (g .begun .opens) refl
+module _ {l : Layout} {sheet buf : List ℕ} {len : ℕ} {part : PartIn} {n count : ℕ} {s : Surveyed} (g : Gone l sheet buf len part n count s) where
+  abbrev M : Part
+  M = partAt buf part
 
-  pub trace-halt : (k q : ℕ) → s .ended ≡ refused k q → stop k q ≡ traced n (readTrace (termsOf sheet) buf len)
-  trace-halt k q f = trace-unscanned (termsOf sheet) buf len n (g .begun .sheeted) k q (scanned ∙ rw (told-refused n (walk (partOf buf len) 36 1 count) s k q (g .surveys) f) refl)
+  abbrev tm : Terms
+  tm = termsOf l sheet
+
+  -- the part is the message's, and lies in it
+  same : partIn l buf len ≡ M
+  same = sized l buf len M (begun l buf len _ (g .begun .opens) .lies) .0
+
+  pub lies : Reaches buf part
+  lies = reaches l buf len part (begun l buf len _ (g .begun .opens) .lies)
+
+  scanned : scan l buf len ≡ andThen (walk (partOf buf (part .end)) (part .start + 36) 1 count) (closed (part .end))
+  scanned =
+      scan-opened l buf len ∙ ap (λ (x : Result Opened). andThen x (λ o. structuresOf (o .part) (o .count))) (g .begun .opens)
+      ∙ ap (λ (x : Result Walked). andThen x (closed (part .end))) (walk-part buf part (part .start + 36) 1 count)
+
+  pub trace-halt : (k q : ℕ) → s .ended ≡ refused k q → stop k q ≡ tracedBy n tm buf len
+  trace-halt k q f =
+      trace-unscanned tm buf len n (g .begun .sheeted) k q (scanned ∙ rw (told-refused n (walk (partOf buf (part .end)) (part .start + 36) 1 count) s k q (g .surveys) f) refl)
 
   module _ (q : ℕ) (f : s .ended ≡ accepted q) where
-    t : Told n (walk (partOf buf len) 36 1 count) s q
-    t = told n (walk (partOf buf len) 36 1 count) s q (g .surveys) f
+    t : Told n (walk (partOf buf (part .end)) (part .start + 36) 1 count) s q
+    t = told n (walk (partOf buf (part .end)) (part .start + 36) 1 count) s q (g .surveys) f
 
-    pub trace-left : (q ≡ len → ⊥) → stop leftOver q ≡ traced n (readTrace (termsOf sheet) buf len)
+    pub trace-left : (q ≡ part .end → ⊥) → stop leftOver q ≡ tracedBy n tm buf len
     unfolding closed
-    trace-left d = trace-unscanned (termsOf sheet) buf len n (g .begun .sheeted) leftOver q (scanned ∙ rw (t .over, ne-eqb q len d) refl)
+    trace-left d = trace-unscanned tm buf len n (g .begun .sheeted) leftOver q (scanned ∙ rw (t .over, ne-eqb q (part .end) d) refl)
 
-    module _ (z : q ≡ len) where
-      tree : Walks (partOf buf len) 36 1 count (t .rows) len
-      tree = walks-as refl refl z (walks (partOf buf len) 36 1 count (t .rows) q (t .over))
+    module _ (z : q ≡ part .end) where
+      tree : Walks M (part .start + 36) 1 count (t .rows) (part .end)
+      tree = walks-as refl refl z (walks M (part .start + 36) 1 count (t .rows) q (walk-part buf part (part .start + 36) 1 count ∙ t .over))
 
-      whole-rows : scan buf len ≡ accepted (t .rows)
+      whole-rows : scan l buf len ≡ accepted (t .rows)
       unfolding closed
-      whole-rows = scanned ∙ ap (λ (x : Result Walked). andThen x (closed len)) (t .over) ∙ rw (eq-eqb q len z) refl
+      whole-rows = scanned ∙ ap (λ (x : Result Walked). andThen x (closed (part .end))) (t .over) ∙ rw (eq-eqb q (part .end) z) refl
 
-      whole-read : readTrace (termsOf sheet) buf len ≡ readRows sheet (partOf buf len) (t .rows)
+      whole-read : readTrace tm buf len ≡ readRows sheet M (t .rows)
       unfolding readTrace
-      whole-read = rw (g .begun .sheeted) (ap (λ (x : Result (List Row)). andThen x (readRows sheet (partOf buf len))) whole-rows)
+      whole-read =
+          rw (g .begun .sheeted) (ap (λ (x : Result (List Row)). andThen x (readRows sheet (partIn l buf len))) whole-rows ∙ ap (λ (x : Part). readRows sheet x (t .rows)) same)
 
-      pub trace-whole : judgedIn sheet (partOf buf len) (s .routes) (s .activities .group) ≡ traced n (readTrace (termsOf sheet) buf len)
+      pub trace-whole : judgedIn sheet M (s .routes) (s .activities .group) ≡ tracedBy n tm buf len
       trace-whole =
-          ap (λ (x : Counted). judgedIn sheet (partOf buf len) x (s .activities .group)) (t .routes)
-          ∙ ap (λ (x : Counted). judgedIn sheet (partOf buf len) (counted «MQGACF_TRACE_ROUTE» 0 (t .rows)) (x .group)) (t .activities)
-          ∙ sym (rows-read (partOf buf len) 36 count (t .rows) tree sheet n) ∙ ap (traced n) (sym whole-read)
+          ap (λ (x : Counted). judgedIn sheet M x (s .activities .group)) (t .routes)
+          ∙ ap (λ (x : Counted). judgedIn sheet M (counted «MQGACF_TRACE_ROUTE» 0 (t .rows)) (x .group)) (t .activities)
+          ∙ sym (rows-read M (part .start + 36) count (t .rows) tree sheet n) ∙ ap (traced n M) (sym whole-read)
+          ∙ ap (λ (x : Part). traced n x (readTrace tm buf len)) (sym same)
 
       -- the survey went over the members of the one TraceRoute group
-      pub route-within : s .routes .count ≡ 1 → Within buf len (s .routes .group .inside) (s .routes .group .members)
+      pub route-within : s .routes .count ≡ 1 → Within buf (part .end) (s .routes .group .inside) (s .routes .group .members)
       unfolding counted
       route-within =
-          subst (λ (x : Counted). x .count ≡ 1 → Within buf len (x .group .inside) (x .group .members)) (sym (t .routes))
+          subst (λ (x : Counted). x .count ≡ 1 → Within buf (part .end) (x .group .inside) (x .group .members)) (sym (t .routes))
           (λ i.
           let first : 0 < length (traceRoutes (t .rows)) = omega arith in
-          let z = opened-sized buf len count (g .begun .opens) in
           record {
-            known = record { there = z .there; most = z .most; sound = ap isSound (nth-walk (partOf buf len) 36 count (t .rows) tree «MQGACF_TRACE_ROUTE» 0 first) };
-            behind = omega (arith, nth-behind (partOf buf len) 36 count (t .rows) tree «MQGACF_TRACE_ROUTE» 0 first);
+            known = record {
+              there = lies .there;
+              most = lies .most;
+              sound = ap isSound (sym (walk-part buf part _ 2 _) ∙ nth-walk M (part .start + 36) count (t .rows) tree «MQGACF_TRACE_ROUTE» 0 first);
+            };
+            behind = omega (arith, nth-behind M (part .start + 36) count (t .rows) tree «MQGACF_TRACE_ROUTE» 0 first);
           })
 
+-- no attribute is read with the part's start
+pub attributes-from : (sheet msg : List ℕ) (part : PartIn) (inside members : ℕ) (activity : Group)
+    → attributesIn sheet (partOf msg (part .end)) inside members activity part ≡ attributesIn sheet (partAt msg part) inside members activity part
+unfolding attributesBy valuesAt valueAt
+attributes-from sheet msg part inside members activity = rw (walk-part msg part inside 2 members) refl
+
 -- WHAT THE ANSWER TELLS of what Read gives
-pub traced-refused : (n : ℕ) (x : Result Trace) (o : Readout) (k p : ℕ) → o ≡ traced n x → o .answer ≡ refused k p → x ≡ refused k p
-traced-refused n (accepted t) o k p h f =
-    let e : _≡_ {A = Result Located} (accepted located) (refused k p) = sym (ap (λ (y : Readout). y .answer) h) ∙ f in
+pub traced-refused : (n : ℕ) (m : Part) (x : Result Trace) (o : Readout) (k p : ℕ) → o ≡ traced n m x → o .answer ≡ refused k p → x ≡ refused k p
+traced-refused n m (accepted t) o k p h f =
+    let e : _≡_ {A = Result Present} (accepted present) (refused k p) = sym (ap (λ (y : Readout). y .answer) h) ∙ f in
     absurd (clash (cc))
-traced-refused n (refused k′ p′) o k p h f =
-    let e : _≡_ {A = Result Located} (refused k′ p′) (refused k p) = sym (ap (λ (y : Readout). y .answer) h) ∙ f in
+traced-refused n m (refused k′ p′) o k p h f =
+    let e : _≡_ {A = Result Present} (refused k′ p′) (refused k p) = sym (ap (λ (y : Readout). y .answer) h) ∙ f in
     cc
 
-pub traced-found : (n : ℕ) (x : Result Trace) (o : Readout) → o ≡ traced n x → o .answer ≡ accepted located
-    → (rows : List Row) × (x ≡ accepted (record { rows = rows; places = o .places; values = o .values }))
-traced-found n (accepted t) o h f =
+pub traced-found : (n : ℕ) (m : Part) (x : Result Trace) (o : Readout) → o ≡ traced n m x → o .answer ≡ accepted present
+    → (rows : List Row) × (x ≡ accepted (record { rows = rows; places = o .places; values = o .values })) × (o .part ≡ lying m)
+traced-found n m (accepted t) o h f =
     let p : o .places ≡ t .places = ap (λ (y : Readout). y .places) h in
     let v : o .values ≡ t .values = ap (λ (y : Readout). y .values) h in
-    (t .rows, rw (p, v) refl)
-traced-found n (refused k p) o h f =
-    let e : _≡_ {A = Result Located} (refused k p) (accepted located) = sym (ap (λ (y : Readout). y .answer) h) ∙ f in
+    (t .rows, rw (p, v) refl, ap (λ (y : Readout). y .part) h)
+traced-found n m (refused k p) o h f =
+    let e : _≡_ {A = Result Present} (refused k p) (accepted present) = sym (ap (λ (y : Readout). y .answer) h) ∙ f in
     absurd (clash (cc))

@@ -8,12 +8,11 @@ use lib.ListN.{length, getD, drop, length-map}
 use lib.Seq.{ext-getD}
 use lib.Dec.{ltb, eqb}
 use borrow.Author.Tests.{lt-ltb, le-ltb, ne-eqb}
-use Rattle.meaning.specs.Bytes.{Part, number}
+use Rattle.meaning.specs.Bytes.{Part, partOf, number}
 use Rattle.meaning.specs.Names.{«MQCFT_INTEGER»}
 use Rattle.meaning.specs.Answer.{Result, accepted, refused, andThen, consIf}
 use Rattle.meaning.specs.Structure.{Row}
 use Rattle.meaning.specs.Walk.{Walked, walked, walk, rowsIn}
-use Rattle.meaning.specs.Message.{partOf}
 use Rattle.meaning.specs.Trace.{isDirect, directIn, named, oneInteger, eachOnce, placeOfFirst, placesOf, valueAt, valuesAt}
 use Rattle.meaning.proofs.Tests.{clash, and-true}
 use Rattle.meaning.proofs.Structures.{row-at}

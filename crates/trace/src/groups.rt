@@ -11,7 +11,7 @@ ghost use mathlib.Core.Path.{_≡_};
 ghost use Prim.Native.Nat.{_+_, _≤_, _<_};
 ghost use lib.ListN.{length};
 ghost use Rattle.meaning.specs.Walk.{walk};
-ghost use Rattle.meaning.specs.Message.{partOf};
+ghost use Rattle.meaning.specs.Bytes.{partOf};
 ghost use Rattle.refusals.specs.Refusals.{refusal};
 ghost use Rattle.structure.specs.Rows.{rowOf};
 ghost use Rattle.trace.specs.Groups.{noGroupYet, noneYet, countRow, CountableGroup, surveyOf, surveyed};
@@ -95,17 +95,18 @@ fn halted(r: Refusal) -> Tops
     }
 }
 
-// Goes over the top-level structures of a message, `count` of them, and over all that is inside them.
-pub fn survey(msg: &[u8], len: usize, count: u32, n: usize) -> Tops
-    requires { ⌜ (len ≤ length (now msg)) × (len ≤ 65536) ⌝ }
-    ensures { λ s. ⌜ surveyOf s ≡ surveyed n (walk (partOf (now (msg .entry)) len) 36 1 count) ⌝ }
+// Goes over the top-level structures of a part that ends at `end`, `count` of them from `first` on, and over all that is inside
+// them.
+pub fn survey(msg: &[u8], end: usize, first: usize, count: u32, n: usize) -> Tops
+    requires { ⌜ (end ≤ length (now msg)) × (end ≤ 65536) ⌝ }
+    ensures { λ s. ⌜ surveyOf s ≡ surveyed n (walk (partOf (now (msg .entry)) end) first 1 count) ⌝ }
 {
-    let mut at: usize = 36;
+    let mut at = first;
     let mut left = count;
     let mut routes = none_yet();
     let mut activities = none_yet();
     while 0 < left {
-        let crossing = pass(msg, len, at, 1);
+        let crossing = pass(msg, end, at, 1);
         match crossing {
             Crossing::Refused(r) => {
                 return halted(r);

@@ -6,7 +6,7 @@ ghost use mathlib.Core.Path.{_≡_};
 ghost use Prim.Native.Nat.{_≤_};
 ghost use lib.ListN.{length};
 ghost use Rattle.meaning.specs.Walk.{walk};
-ghost use Rattle.meaning.specs.Message.{partOf};
+ghost use Rattle.meaning.specs.Bytes.{partOf};
 ghost use Rattle.meaning.specs.Trace.{valuesAt};
 ghost use Rattle.trace.specs.Passing.{Known};
 ghost use Rattle.trace.specs.Marks.{noted, Noted, Marked, allFound, InReach};
@@ -54,9 +54,9 @@ fn note_all(
 
 // The marks of the eight attributes after all of a group's direct members, `count` of them, the first at `place`. What is
 // nested deeper is passed over. The members were surveyed, so none is checked again.
-pub fn marks_of(msg: &[u8], len: usize, place: usize, count: u32, sheet: [u32; 8]) -> [usize; 8]
-    requires { ⌜ Known (now msg) len (walk (partOf (now msg) len) place 2 count) ⌝ }
-    ensures { λ r. ⌜ Marked sheet (walk (partOf (now (msg .entry)) len) place 2 count) r ⌝ }
+pub fn marks_of(msg: &[u8], end: usize, place: usize, count: u32, sheet: [u32; 8]) -> [usize; 8]
+    requires { ⌜ Known (now msg) end (walk (partOf (now msg) end) place 2 count) ⌝ }
+    ensures { λ r. ⌜ Marked sheet (walk (partOf (now (msg .entry)) end) place 2 count) r ⌝ }
 {
     let mut at = place;
     let mut left = count;
@@ -64,7 +64,7 @@ pub fn marks_of(msg: &[u8], len: usize, place: usize, count: u32, sheet: [u32; 8
     while 0 < left {
         let after = note_all(sheet, marks, number_at(msg, at), number_at(msg, at + 8), at);
         marks = after;
-        at = behind(msg, len, at, 2);
+        at = behind(msg, end, at, 2);
         left = left - 1;
     }
     marks
@@ -85,9 +85,9 @@ pub fn all_found(marks: [usize; 8]) -> bool
 }
 
 // The Values of the integers at eight places.
-pub fn values_at(msg: &[u8], len: usize, places: [usize; 8]) -> [u32; 8]
-    requires { ⌜ (len ≤ length (now msg)) × InReach len places ⌝ }
-    ensures { λ r. ⌜ r ≡ valuesAt (partOf (now (msg .entry)) len) places ⌝ }
+pub fn values_at(msg: &[u8], end: usize, places: [usize; 8]) -> [u32; 8]
+    requires { ⌜ (end ≤ length (now msg)) × InReach end places ⌝ }
+    ensures { λ r. ⌜ r ≡ valuesAt (partOf (now (msg .entry)) end) places ⌝ }
 {
     let mut values = [0u32; 8];
     let mut k = 0;

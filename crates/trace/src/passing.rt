@@ -11,7 +11,7 @@ ghost use mathlib.Core.Path.{_≡_};
 ghost use Prim.Native.Nat.{_≤_};
 ghost use lib.ListN.{length};
 ghost use Rattle.meaning.specs.Answer.{accepted};
-ghost use Rattle.meaning.specs.Message.{partOf};
+ghost use Rattle.meaning.specs.Bytes.{partOf};
 ghost use Rattle.trace.specs.Passing.{crossingOf, crossed, behindOf, Known};
 
 // A structure and the place behind all that is inside it, or the first fault there.
@@ -21,11 +21,11 @@ pub enum Crossing {
 }
 
 // Passes over the structure at `place`, of this depth, and all that is inside it.
-pub fn pass(msg: &[u8], len: usize, place: usize, depth: u32) -> Crossing
-    requires { ⌜ (len ≤ length (now msg)) × (len ≤ 65536) ⌝ }
-    ensures { λ r. ⌜ crossingOf r ≡ crossed (partOf (now (msg .entry)) len) place depth ⌝ }
+pub fn pass(msg: &[u8], end: usize, place: usize, depth: u32) -> Crossing
+    requires { ⌜ (end ≤ length (now msg)) × (end ≤ 65536) ⌝ }
+    ensures { λ r. ⌜ crossingOf r ≡ crossed (partOf (now (msg .entry)) end) place depth ⌝ }
 {
-    let found = extent_at(msg, len, place, depth);
+    let found = extent_at(msg, end, place, depth);
     match found {
         Extent::Refused(r) => Crossing::Refused(r),
         Extent::Sound(size, members) => {
@@ -41,7 +41,7 @@ pub fn pass(msg: &[u8], len: usize, place: usize, depth: u32) -> Crossing
             if members == 0 {
                 return Crossing::Over(row, next);
             }
-            let inner = over(msg, len, next, depth + 1, members);
+            let inner = over(msg, end, next, depth + 1, members);
             match inner {
                 Passed::Refused(r) => Crossing::Refused(r),
                 Passed::Behind(behind, _) => Crossing::Over(row, behind),
@@ -52,15 +52,15 @@ pub fn pass(msg: &[u8], len: usize, place: usize, depth: u32) -> Crossing
 
 // The place behind a structure that is known to be sound, and behind all that is inside it. Its fields are read and not checked
 // again: whoever goes over the members of a group that was surveyed asks this of each.
-pub fn behind(msg: &[u8], len: usize, place: usize, depth: u32) -> usize
-    requires { ⌜ Known (now msg) len (crossed (partOf (now msg) len) place depth) ⌝ }
-    ensures { λ r. ⌜ behindOf (crossed (partOf (now (msg .entry)) len) place depth) ≡ accepted r ⌝ }
+pub fn behind(msg: &[u8], end: usize, place: usize, depth: u32) -> usize
+    requires { ⌜ Known (now msg) end (crossed (partOf (now msg) end) place depth) ⌝ }
+    ensures { λ r. ⌜ behindOf (crossed (partOf (now (msg .entry)) end) place depth) ≡ accepted r ⌝ }
 {
     let next = place + number_at(msg, place + 4) as usize;
     if number_at(msg, place) != MQCFT_GROUP {
         return next;
     }
-    let inner = over(msg, len, next, depth + 1, number_at(msg, place + 12));
+    let inner = over(msg, end, next, depth + 1, number_at(msg, place + 12));
     match inner {
         // never: the members of a sound group are sound
         Passed::Refused(_) => next,

@@ -8,6 +8,7 @@ use lib.ListN.{getD}
 use lib.Dec.{leb, ltb}
 use borrow.Author.Tests.{le-leb, lt-leb, lt-ltb, le-ltb, eq-eqb, ne-eqb, leb-true, leb-false}
 use Rattle.meaning.specs.Names.{mostCount, mostBytes}
+use Rattle.meaning.specs.Layout.{roomFor}
 use Rattle.meaning.specs.Trace.{value}
 use Rattle.meaning.specs.Event.{done, denied, Plan, counterSum, overLimit, replyOwed, reportLength, doneBy, decide}
 
@@ -30,10 +31,10 @@ module _ (v : List ℕ) (limit total : ℕ) (l : limit ≡ getD v 4 0) (s : tota
   by-sum z = rw (lt-ltb 0 (getD v 4 0) (omega arith), ← l, ← s) refl
 
 -- ROOM
-pub no-room-for : (appends : Bool) (longer room : ℕ) → appends ≡ true → room < longer → true ≡ (appends && not (leb longer room && leb longer mostBytes))
+pub no-room-for : (appends : Bool) (longer room : ℕ) → appends ≡ true → room < longer → true ≡ (appends && not (roomFor longer room))
 no-room-for appends longer room a h = rw (a, lt-leb longer room h) refl
 
-pub by-most : (appends : Bool) (longer room : ℕ) → appends ≡ true → longer ≤ room → ltb mostBytes longer ≡ (appends && not (leb longer room && leb longer mostBytes))
+pub by-most : (appends : Bool) (longer room : ℕ) → appends ≡ true → longer ≤ room → ltb mostBytes longer ≡ (appends && not (roomFor longer room))
 by-most appends longer room a h = rw (a, le-leb longer room h) (not-leb longer mostBytes)
 
 pub by-reserve : (reports : Bool) (size reserve : ℕ) → reports ≡ true → ltb reserve (36 + size) ≡ (reports && not (leb (reportLength size) reserve))
@@ -51,11 +52,11 @@ module _ (v : List ℕ) (p : Plan) (size len room reserve : ℕ) where
     full e = rw (within, eq-eqb (value v (p .counter)) mostCount e) refl
 
     module _ (below : value v (p .counter) ≡ mostCount → ⊥) where
-      pub no-room : p .appends && not (leb (len + size) room && leb (len + size) mostBytes) ≡ true → denied 12 0 false ≡ decide v p size len room reserve
+      pub no-room : p .appends && not (roomFor (len + size) room) ≡ true → denied 12 0 false ≡ decide v p size len room reserve
       unfolding decide
       no-room e = rw (within, ne-eqb (value v (p .counter)) mostCount below, e) refl
 
-      module _ (fits : p .appends && not (leb (len + size) room && leb (len + size) mostBytes) ≡ false) where
+      module _ (fits : p .appends && not (roomFor (len + size) room) ≡ false) where
         pub no-report : p .reports && not (leb (reportLength size) reserve) ≡ true → denied 13 0 false ≡ decide v p size len room reserve
         unfolding decide
         no-report e = rw (within, ne-eqb (value v (p .counter)) mostCount below, fits, e) refl

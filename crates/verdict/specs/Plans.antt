@@ -6,6 +6,7 @@ use mathlib.Core.List.{List}
 use Rattle.meaning.specs.Names.{RecordedActivities, UnrecordedActivities, DiscontinuityCount}
 use Rattle.meaning.specs.Event.{Level as Rank, low, medium, high, Settings as Manager, Event, discontinuity, activity, Plan as Due, planOf, Done as Told, Answer as Said, done, denied}
 use Rattle.refusals.specs.Refusals.{numberOf, placeOf, owed}
+use Rattle.layout.specs.Layouts.{layoutOf}
 use Rattle.verdict.specs.declared.plan.Level.{Level}
 use Rattle.verdict.specs.declared.plan.Level.the-variants.{Low, Medium, High}
 use Rattle.verdict.specs.declared.plan.Settings.{Settings}
@@ -22,7 +23,7 @@ levelOf Medium = medium
 levelOf High = high
 
 abbrev pub settingsOf : Settings → Manager
-settingsOf s = record { activityRecording = s .recording; traceRouteMessaging = s .messaging }
+settingsOf s = record { activityRecording = s .recording; traceRouteMessaging = s .messaging; layout = layoutOf (s .layout) }
 
 -- an activity with its lent group, whether reports are asked for, and its settings
 abbrev pub activityOf : Level → List ℕ → Bool → Settings → Event
@@ -42,9 +43,9 @@ pub record Index (c r : ℕ) : Type 0 where
   pub is : r ≡ c
   pub low : r ≤ 3
 
--- p is the plan for a discontinuity, whatever the values; for an activity, whatever its group
+-- p is the plan for a discontinuity, whatever the values and its settings; for an activity, whatever its group
 abbrev pub PlansDiscontinuity : Plan → Type 0
-PlansDiscontinuity p = (v : List ℕ) → planned p ≡ planOf v discontinuity
+PlansDiscontinuity p = (v : List ℕ) (s : Manager) → planned p ≡ planOf v (discontinuity s)
 
 abbrev pub PlansActivity : Plan → List ℕ → Level → Bool → Settings → Type 0
 PlansActivity p v level asked s = (g : List ℕ) → planned p ≡ planOf v (activityOf level g asked s)

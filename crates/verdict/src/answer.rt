@@ -8,14 +8,14 @@ use attributes::MAX_ACTIVITIES;
 use attributes::MQROUTE_ACCUMULATE_AND_REPLY;
 use attributes::RECORDED_ACTIVITIES;
 use attributes::UNRECORDED_ACTIVITIES;
-use pcf::HEADER;
-use pcf::MOST_BYTES;
+use layout::HEADER;
+use layout::MOST_BYTES;
 use refusals::Refusal;
 ghost use mathlib.Core.Path.{_≡_};
 ghost use mathlib.Core.Bool.{not, _&&_, cond};
 ghost use Prim.Native.Nat.{_+_, _≤_, _<_};
 ghost use lib.Dec.{leb};
-ghost use Rattle.meaning.specs.Names.{mostBytes};
+ghost use Rattle.meaning.specs.Layout.{roomFor};
 ghost use Rattle.meaning.specs.Event.{counterSum, overLimit, replyOwed, reportLength, doneBy, decide as decideOn};
 ghost use Rattle.verdict.specs.Plans.{planned, doneOf, answerOf};
 
@@ -69,10 +69,10 @@ fn reply_owed(values: [u32; 8]) -> bool
     values[ACCUMULATE] == MQROUTE_ACCUMULATE_AND_REPLY
 }
 
-// The group is to be appended, and there is no room for it behind the message.
+// The group is to be appended, and the message would be longer than its buffer or than 65,536 bytes.
 fn lacks_room(appends: bool, size: usize, len: usize, room: usize) -> bool
     requires { ⌜ (size ≤ 65500) × (len ≤ 65536) ⌝ }
-    ensures { λ r. ⌜ r ≡ (appends && not (leb (len + size) room && leb (len + size) mostBytes)) ⌝ }
+    ensures { λ r. ⌜ r ≡ (appends && not (roomFor (len + size) room)) ⌝ }
 {
     let longer = len + size;
     if appends {

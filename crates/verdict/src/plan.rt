@@ -8,6 +8,7 @@ use attributes::MQROUTE_DETAIL_LOW;
 use attributes::MQROUTE_DETAIL_MEDIUM;
 use attributes::RECORDED_ACTIVITIES;
 use attributes::UNRECORDED_ACTIVITIES;
+use layout::Layout;
 ghost use mathlib.Core.Path.{_≡_};
 ghost use mathlib.Core.Bool.{not, _&&_, _||_};
 ghost use Rattle.meaning.specs.Event.{rank, unrecordedForLevel, recordedIn};
@@ -20,10 +21,11 @@ pub enum Level {
     High,
 }
 
-// What the queue manager does: activity recording, trace-route messaging.
+// What the queue manager does: activity recording, trace-route messaging; and how the trace is laid out.
 pub struct Settings {
     pub recording: bool,
     pub messaging: bool,
+    pub layout: Layout,
 }
 
 // The counters of a trace.

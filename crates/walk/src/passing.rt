@@ -6,7 +6,7 @@ use structure::extent_at;
 ghost use mathlib.Core.Path.{_≡_};
 ghost use Prim.Native.Nat.{_≤_};
 ghost use lib.ListN.{length};
-ghost use Rattle.meaning.specs.Message.{partOf};
+ghost use Rattle.meaning.specs.Bytes.{partOf};
 ghost use Rattle.meaning.specs.Walk.{walk};
 ghost use Rattle.walk.specs.Passings.{passage, passedOf};
 

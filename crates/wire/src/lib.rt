@@ -4,7 +4,7 @@
 ghost use mathlib.Core.Path.{_≡_};
 ghost use mathlib.Core.List.{_∷_, []};
 ghost use Prim.Native.Nat.{_+_, _≤_, _/_, _%_};
-ghost use lib.ListN.{length, getD};
+ghost use lib.ListN.{length, getD, take, drop};
 ghost use Rattle.meaning.specs.Bytes.{number, bytes4, splice};
 ghost use Rattle.wire.specs.LeastFirst.{LeastFirst};
 
@@ -75,4 +75,18 @@ pub fn copy_to(to: &mut [u8], at: usize, from: &[u8])
     ensures { λ _. ⌜ now (to .exit) ≡ splice (now (to .entry)) at (now (from .entry)) ⌝ }
 {
     copy(&mut to[at..], from);
+}
+
+// The most bytes that are moved: those of a whole message.
+const BLOCK: usize = 65536;
+
+// Moves the `n` bytes at `from` back by `by` bytes. They are taken whole before any of them is written, so that it does not matter
+// how far the two places overlap. The compiler makes one move of the two copies: in the object code there is no block.
+pub fn move_back(s: &mut [u8], from: usize, n: usize, by: usize)
+    requires { ⌜ (from + n + by ≤ length (now s)) × (n ≤ 65536) ⌝ }
+    ensures { λ _. ⌜ now (s .exit) ≡ splice (now (s .entry)) (from + by) (take n (drop from (now (s .entry)))) ⌝ }
+{
+    let mut block = [0u8; BLOCK];
+    copy(&mut block, &s[from..from + n]);
+    copy_to(s, from + by, &block[..n]);
 }

@@ -7,7 +7,7 @@ use mathlib.Core.List.{List, [], _∷_, _++_}
 use lib.ListN.{length}
 use lib.Dec.{eqb}
 use Rattle.meaning.specs.Bytes.{splice}
-use Rattle.meaning.specs.Names.{badLength, badHeader, badStructure, tooDeep, leftOver, noTraceHeader, noTraceRoute, badAttribute, badGroup, «MQFB_MAX_ACTIVITIES», counterFull, noRoom, reportTooShort, «MQFB_UNSUPPORTED_DELIVERY», «MQFB_UNSUPPORTED_FORWARDING», «MQFB_NOT_FORWARDED», badSheet}
+use Rattle.meaning.specs.Names.{badLength, badHeader, badStructure, tooDeep, leftOver, noTraceHeader, noTraceRoute, badAttribute, badGroup, «MQFB_MAX_ACTIVITIES», counterFull, noRoom, reportTooShort, «MQFB_UNSUPPORTED_DELIVERY», «MQFB_UNSUPPORTED_FORWARDING», «MQFB_NOT_FORWARDED», badSheet, badEmbeddedHeader}
 use Rattle.meaning.specs.Listing.{ascii}
 
 -- a number and its words
@@ -22,7 +22,7 @@ says n text = record { number = n; words = ascii text }
 abbrev pub sayings : List Saying
 sayings =
     says 0 "accepted"
-    ∷ says badLength "fewer than 36 bytes, or more than 65,536 or than the buffer has"
+    ∷ says badLength "fewer than 36 bytes (embedded: 68), or more than 65,536 or than the buffer has"
     ∷ says badHeader "the header is not sound"
     ∷ says badStructure "a structure is not sound: its type, length or count, or it goes past the end"
     ∷ says tooDeep "a group is deeper than 8"
@@ -39,6 +39,7 @@ sayings =
     ∷ says «MQFB_UNSUPPORTED_FORWARDING» "a forwarding option is not supported (MQFB_UNSUPPORTED_FORWARDING)"
     ∷ says «MQFB_NOT_FORWARDED» "it may not go to this queue manager (MQFB_NOT_FORWARDED)"
     ∷ says badSheet "the sheet of identifiers is not sound"
+    ∷ says badEmbeddedHeader "the embedded header is not sound: its identifier, version or length"
     ∷ []
 
 abbrev pub unknown : List ℕ

@@ -22,7 +22,7 @@ pub fn put_words(number: u32, text: &mut [u8; 128]) -> usize
         0 => say(text, b"accepted"),
         1 => say(
             text,
-            b"fewer than 36 bytes, or more than 65,536 or than the buffer has",
+            b"fewer than 36 bytes (embedded: 68), or more than 65,536 or than the buffer has",
         ),
         2 => say(text, b"the header is not sound"),
         3 => say(
@@ -61,6 +61,10 @@ pub fn put_words(number: u32, text: &mut [u8; 128]) -> usize
             b"it may not go to this queue manager (MQFB_NOT_FORWARDED)",
         ),
         17 => say(text, b"the sheet of identifiers is not sound"),
+        18 => say(
+            text,
+            b"the embedded header is not sound: its identifier, version or length",
+        ),
         _ => say(text, b"no refusal has this number"),
     }
 }

@@ -1,9 +1,9 @@
-//! Writes the first inputs into a folder: the documents' examples, as plain
-//! messages and with choices.
+//! Writes the first inputs into a folder: known messages in both forms, as they
+//! stand and with choices.
 
-use decoder::generate::{assemble, Piece};
+use decoder::generate::{assemble, embed, Piece};
 use decoder::sample::{self, IBM, MADE_UP};
-use decoder::{Header, Sheet, Values};
+use decoder::{Embedding, Header, Layout, Sheet, Values};
 use fuzz::layout::{Choice, Input};
 use std::path::Path;
 use std::{env, fs, io};
@@ -15,8 +15,11 @@ const VALUES: [u32; 8] = [8, 0, 0, 0, 0, 0x10004, 0x100, 0x2000];
 fn composed(sheet: [u32; 8], values: [u32; 8]) -> Vec<u8> {
     let mut message = vec![0; 180];
     let composed = decoder::compose(
+        Layout::PLAIN,
         &Sheet::new(sheet),
         &Values::from_array(values),
+        &Embedding::NONE,
+        &[],
         &mut message,
     );
     assert_eq!(composed, Ok(180));
@@ -71,41 +74,88 @@ fn structures() -> Vec<u8> {
     assemble(header(), &[&leaves[..], &[deep]].concat())
 }
 
-/// Each with the name of its file. A plain message stands as it is.
-fn seeds() -> Vec<(&'static str, Vec<u8>)> {
+/// What a sender may say of user data in ASCII.
+const EMBEDDING: Embedding = Embedding {
+    encoding: 273,
+    coded_char_set_id: 819,
+    format: *b"MQSTR   ",
+    flags: 0,
+};
+
+/// What can be read as a structure, an integer that begins with Encoding.
+const INTEGER: Embedding = Embedding {
+    encoding: 3,
+    coded_char_set_id: 16,
+    ..EMBEDDING
+};
+
+type Seed = (&'static str, Vec<u8>);
+
+/// Each with the name of its file. A message stands as it is.
+fn plain() -> Vec<Seed> {
     let (trace, ibm) = (trace(), composed(IBM, VALUES));
-    let mut lent = Input::plain(&trace);
-    lent.group = activity().bytes;
+    let input = |message| Input::new(message, Layout::PLAIN);
     vec![
         ("composed", composed(MADE_UP, VALUES)),
         ("event-004", sample::event_004()),
         ("structures", structures()),
         ("activities", trace.clone()),
-        ("lent-group", lent.bytes()),
-        (
-            "ibm-sheet",
-            Input::plain(&ibm).choose(Choice::Sheet, 1).bytes(),
-        ),
-        (
-            "no-room",
-            Input::plain(&trace).choose(Choice::Room, 2).bytes(),
-        ),
-        (
-            "no-report",
-            Input::plain(&trace).choose(Choice::Report, 4).bytes(),
-        ),
-        (
-            "long",
-            Input::plain(&trace).choose(Choice::Swell, 4).bytes(),
-        ),
+        ("lent-group", with_group(input(&trace))),
+        ("ibm-sheet", input(&ibm).choose(Choice::Sheet, 1).bytes()),
+        ("no-room", input(&trace).choose(Choice::Room, 2).bytes()),
+        ("no-report", input(&trace).choose(Choice::Report, 4).bytes()),
+        ("long", input(&trace).choose(Choice::Swell, 4).bytes()),
         (
             "name",
-            Input::plain(&trace)
+            input(&trace)
                 .choose(Choice::Name, 9)
                 .with_free(3002)
                 .bytes(),
         ),
     ]
+}
+
+/// The same messages embedded: without user data, with some of odd lengths, and
+/// with such as look like what stands before them.
+fn embedded() -> Vec<Seed> {
+    let integer = embed(&INTEGER, &trace(), b"");
+    let embed = |part: &[u8], user_data: &[u8]| embed(&EMBEDDING, part, user_data);
+    let user_data = embed(&trace(), b"hello");
+    let alike = embed(&trace(), &activity().bytes);
+    let input = |message| Input::new(message, Layout::EMBEDDED);
+    vec![
+        ("embedded", embed(&composed(MADE_UP, VALUES), b"hello")),
+        ("embedded-event-004", embed(&sample::event_004(), &[])),
+        ("embedded-structures", embed(&structures(), b"!")),
+        ("embedded-activities", alike.clone()),
+        ("embedded-lent-group", with_group(input(&user_data))),
+        (
+            "embedded-no-room",
+            input(&alike).choose(Choice::Room, 2).bytes(),
+        ),
+        (
+            "embedded-long",
+            input(&user_data).choose(Choice::Swell, 4).bytes(),
+        ),
+        (
+            "embedded-much-user-data",
+            input(&user_data).choose(Choice::Swell, 9).bytes(),
+        ),
+        (
+            "embedded-structure-in-the-header",
+            input(&integer).choose(Choice::Place, 12).bytes(),
+        ),
+        (
+            "embedded-read-as-plain",
+            Input::new(&alike, Layout::PLAIN).bytes(),
+        ),
+    ]
+}
+
+/// An input with an Activity group of its own.
+fn with_group(mut input: Input) -> Vec<u8> {
+    input.group = activity().bytes;
+    input.bytes()
 }
 
 fn main() -> io::Result<()> {
@@ -114,7 +164,7 @@ fn main() -> io::Result<()> {
         std::process::exit(2);
     };
     fs::create_dir_all(&folder)?;
-    for (name, bytes) in seeds() {
+    for (name, bytes) in plain().into_iter().chain(embedded()) {
         fs::write(Path::new(&folder).join(name), bytes)?;
     }
     Ok(())

@@ -1,24 +1,29 @@
-//! Applying events to a trace (refusals 17, 1 to 13).
+//! Applying events to a trace (refusals 17, 1, 18, 2 to 13).
 //!
 //! An event is judged as a whole before the first byte is written, so that a
 //! refusal changes nothing.
 
 use crate::attribute::{Values, ACCUMULATE_NONE, ACCUMULATE_WITH_REPLY, COUNTER_MAX};
-use crate::event::{Activity, Applied, Counter, Event, EventRefusal};
+use crate::embedded::make_way;
+use crate::event::{Activity, Applied, Counter, Event, EventRefusal, Settings};
 use crate::header::{Header, COUNT_PLACE, HEADER_LENGTH, MESSAGE_MAX};
+use crate::layout::{Form, Layout};
 use crate::lent::lent_group_is_sound;
 use crate::refusal::Refusal;
 use crate::sheet::Sheet;
 use crate::trace::{locate, Trace};
-use crate::word::{put_word, word};
+use crate::word::{put_bytes, put_word, word};
 
-/// Applies a discontinuity to the trace in the buffer's first `length` bytes.
+/// Applies a discontinuity to the trace in the buffer's first `length` bytes,
+/// laid out as the settings say.
 pub fn discontinuity(
     message: &mut [u8],
     length: usize,
     sheet: &Sheet,
+    settings: &Settings,
 ) -> Result<Applied, EventRefusal> {
-    apply(message, length, sheet, &Event::Discontinuity, &mut [])
+    let event = Event::Discontinuity(*settings);
+    apply(message, length, sheet, &event, &mut [])
 }
 
 /// Applies an activity; a report that is due is written to `report`'s start.
@@ -40,12 +45,14 @@ pub fn apply(
     event: &Event,
     report: &mut [u8],
 ) -> Result<Applied, EventRefusal> {
-    let trace = locate(message, length, sheet)?;
-    let plan = plan(&trace.values, event)?;
+    let layout = event.settings().layout;
+    let trace = locate(message, length, layout, sheet)?;
+    let plan = plan(&trace.contents.values, event)?;
     let answer = room(&plan, length, message.len(), report.len())?;
     raise(message, &trace, plan.counter);
     if plan.append {
-        append(message, length, plan.group);
+        let end = trace.contents.user_data_place;
+        append(message, length, layout, end, plan.group);
     }
     if plan.report {
         put_report(report, plan.group);
@@ -76,7 +83,7 @@ fn plan<'a>(values: &Values, event: &Event<'a>) -> Result<Plan<'a>, EventRefusal
         });
     }
     let plan = match event {
-        Event::Discontinuity => Plan {
+        Event::Discontinuity(_) => Plan {
             counter: Counter::Discontinuity,
             append: false,
             report: false,
@@ -111,8 +118,9 @@ fn activity_plan<'a>(values: &Values, activity: &Activity<'a>) -> Plan<'a> {
     }
 }
 
-/// Finds the room before anything is written: 12, then 13. The sums stay below
-/// 2 x 65,536, since message and group are sound.
+/// Finds the room before anything is written: 12, by the whole message with
+/// its user data, then 13. The sums stay below 2 x 65,536, since message and
+/// group are sound.
 fn room(
     plan: &Plan,
     length: usize,
@@ -150,29 +158,26 @@ fn raise(message: &mut [u8], trace: &Trace, counter: Counter) {
         put_word(
             message,
             place,
-            counter.value(&trace.values).saturating_add(1),
+            counter.value(&trace.contents.values).saturating_add(1),
         );
     }
 }
 
-/// Writes the group behind the old end and counts it in the header.
-fn append(message: &mut [u8], length: usize, group: &[u8]) {
-    put_at(message, length, group);
-    if let Some(count) = word(message, COUNT_PLACE) {
+/// Writes the group behind the PCF part's old end and counts it in the header.
+/// User data that stand there move back first.
+fn append(message: &mut [u8], length: usize, layout: Layout, end: usize, group: &[u8]) {
+    if layout.form == Form::Embedded {
+        make_way(message, length, end, group.len());
+    }
+    put_bytes(message, end, group);
+    let place = layout.pcf_start() + COUNT_PLACE;
+    if let Some(count) = word(message, place) {
         // 65,536 bytes hold some thousands of structures, so this cannot overflow.
-        put_word(message, COUNT_PLACE, count.saturating_add(1));
+        put_word(message, place, count.saturating_add(1));
     }
 }
 
 fn put_report(report: &mut [u8], group: &[u8]) {
     Header::REPORT.put(report);
-    put_at(report, HEADER_LENGTH, group);
-}
-
-/// Copies the group to a place with room for it; bytes behind it stay.
-fn put_at(buffer: &mut [u8], place: usize, group: &[u8]) {
-    let rest = buffer.get_mut(place..).unwrap_or_default();
-    if let Some(part) = rest.get_mut(..group.len()) {
-        part.copy_from_slice(group);
-    }
+    put_bytes(report, HEADER_LENGTH, group);
 }

@@ -1,24 +1,25 @@
-//! Check, rows, tally, and the walk one structure at a time (refusals 1 to 5).
+//! Check, rows, tally, and the walk one structure at a time (refusals 1, 18,
+//! 2 to 5).
 
-use crate::header::message;
+use crate::layout::Layout;
 use crate::refusal::Refusal;
 use crate::structure::{structure_at, Row};
-use crate::walk::walk_message;
+use crate::walk::walk_part;
 
 /// A tally has one count for each type 0 to 26.
 pub const KINDS: usize = 27;
 
 /// The number of structures in a sound message, nested ones included.
-pub fn check(buffer: &[u8], length: usize) -> Result<usize, Refusal> {
+pub fn check(buffer: &[u8], length: usize, layout: Layout) -> Result<usize, Refusal> {
     let mut structures = 0;
-    walk_message(buffer, length, |_| structures += 1)?;
+    walk_part(layout.pcf_part(buffer, length)?, |_| structures += 1)?;
     Ok(structures)
 }
 
 /// All rows of a sound message in reading order.
-pub fn rows(buffer: &[u8], length: usize) -> Result<Vec<Row>, Refusal> {
+pub fn rows(buffer: &[u8], length: usize, layout: Layout) -> Result<Vec<Row>, Refusal> {
     let mut rows = Vec::new();
-    walk_message(buffer, length, |row| rows.push(*row))?;
+    walk_part(layout.pcf_part(buffer, length)?, |row| rows.push(*row))?;
     Ok(rows)
 }
 
@@ -31,8 +32,8 @@ pub struct Tally {
 }
 
 /// Counts the structures of each type, nested ones included.
-pub fn tally(buffer: &[u8], length: usize) -> Tally {
-    match counts(buffer, length) {
+pub fn tally(buffer: &[u8], length: usize, layout: Layout) -> Tally {
+    match counts(buffer, length, layout) {
         Ok(counts) => Tally {
             counts,
             refusal: None,
@@ -44,9 +45,9 @@ pub fn tally(buffer: &[u8], length: usize) -> Tally {
     }
 }
 
-fn counts(buffer: &[u8], length: usize) -> Result<[u32; KINDS], Refusal> {
+fn counts(buffer: &[u8], length: usize, layout: Layout) -> Result<[u32; KINDS], Refusal> {
     let mut counts = [0; KINDS];
-    walk_message(buffer, length, |row| {
+    walk_part(layout.pcf_part(buffer, length)?, |row| {
         // Sound structures have types up to 25, so there always is a count.
         if let Some(count) = counts.get_mut(row.kind as usize) {
             *count += 1;
@@ -56,14 +57,17 @@ fn counts(buffer: &[u8], length: usize) -> Result<[u32; KINDS], Refusal> {
 }
 
 /// The row of the structure at any place, taken to be at any depth, and the
-/// place behind that one structure; or 1, 3 or 4 in this order. The header is
-/// not looked at, and a place inside it is read like any other.
+/// place behind that one structure; or 1, 18, 3 or 4 in this order. The PCF
+/// header is not looked at, and a place inside it, or inside an embedded header,
+/// is read like any other. The PCF part's end is the end here.
 pub fn step(
     buffer: &[u8],
     length: usize,
+    layout: Layout,
     place: usize,
     depth: u32,
 ) -> Result<(Row, usize), Refusal> {
-    let row = structure_at(message(buffer, length)?, place, depth)?;
+    let part = layout.pcf_part(buffer, length)?;
+    let row = structure_at(part.bytes, place, depth)?;
     Ok((row, row.behind()))
 }

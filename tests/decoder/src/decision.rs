@@ -1,6 +1,7 @@
 //! The forwarding and arrival decisions (Read's refusals, then 14 to 16).
 
 use crate::attribute::{Values, DELIVER_YES, FORWARD_IF_SUPPORTED, UNRECOGNISED};
+use crate::layout::Layout;
 use crate::refusal::Refusal;
 use crate::sheet::Sheet;
 use crate::trace::read;
@@ -17,19 +18,26 @@ pub enum Arrival {
 pub fn forwarding(
     buffer: &[u8],
     length: usize,
+    layout: Layout,
     sheet: &Sheet,
     supporting: bool,
 ) -> Result<(), Refusal> {
-    decide(&read(buffer, length, sheet)?, supporting)
+    let contents = read(buffer, length, layout, sheet)?;
+    decide(&contents.values, supporting)
 }
 
 /// What happens to the trace at its destination.
-pub fn arrival(buffer: &[u8], length: usize, sheet: &Sheet) -> Result<Arrival, Refusal> {
-    let values = read(buffer, length, sheet)?;
-    if values.deliver & UNRECOGNISED != 0 {
+pub fn arrival(
+    buffer: &[u8],
+    length: usize,
+    layout: Layout,
+    sheet: &Sheet,
+) -> Result<Arrival, Refusal> {
+    let deliver = read(buffer, length, layout, sheet)?.values.deliver;
+    if deliver & UNRECOGNISED != 0 {
         return Err(Refusal::whole(14));
     }
-    Ok(if values.deliver & DELIVER_YES != 0 {
+    Ok(if deliver & DELIVER_YES != 0 {
         Arrival::Put
     } else {
         Arrival::Withhold

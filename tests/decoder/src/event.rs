@@ -3,6 +3,7 @@
 use crate::attribute::{
     Values, DETAIL_HIGH, DETAIL_LOW, DETAIL_MEDIUM, DISCONTINUITIES, RECORDED, UNRECORDED,
 };
+use crate::layout::Layout;
 use crate::refusal::Refusal;
 
 /// An activity's level.
@@ -26,11 +27,13 @@ impl Level {
     }
 }
 
-/// What the queue manager does.
+/// What the queue manager does, and how the trace is laid out.
 #[derive(Clone, Copy, Debug, PartialEq, Eq)]
 pub struct Settings {
     pub activity_recording: bool,
     pub trace_route_messaging: bool,
+    /// The trace's layout. Lent groups and reports are plain in any case.
+    pub layout: Layout,
 }
 
 /// An activity with its lent Activity group.
@@ -45,8 +48,18 @@ pub struct Activity<'a> {
 
 #[derive(Clone, Copy, Debug, PartialEq, Eq)]
 pub enum Event<'a> {
-    Discontinuity,
+    /// Of its settings only the layout has a meaning.
+    Discontinuity(Settings),
     Activity(Activity<'a>),
+}
+
+impl Event<'_> {
+    pub fn settings(&self) -> &Settings {
+        match self {
+            Event::Discontinuity(settings) => settings,
+            Event::Activity(activity) => &activity.settings,
+        }
+    }
 }
 
 /// Which counter rose.

@@ -1,19 +1,18 @@
-//! The 36-byte PCF header: its nine fields, its soundness (refusals 1 and 2),
-//! and the fixed headers of trace-route messages and activity reports.
+//! The 36-byte PCF header: its nine fields, its soundness, and the fixed
+//! headers of trace-route messages and activity reports.
 
-use crate::refusal::Refusal;
 use crate::word::{put_word, word};
 
 /// Bytes of the header.
 pub const HEADER_LENGTH: usize = 36;
 
-/// Most bytes of a message.
+/// Most bytes of a message, with all that stands around its PCF part.
 pub const MESSAGE_MAX: usize = 65_536;
 
 /// Counts and lengths from here on are faults.
 pub(crate) const COUNT_BOUND: u32 = 1 << 31;
 
-/// Where the header's ParameterCount stands.
+/// Where the ParameterCount stands, from the header's start.
 pub(crate) const COUNT_PLACE: usize = 32;
 
 /// The nine fields in their order.
@@ -101,23 +100,5 @@ impl Header {
             ..Header::TRACE_ROUTE
         };
         *self == wanted && self.parameter_count >= 1
-    }
-}
-
-/// The message in the lent buffer, or refusal 1.
-#[inline]
-pub(crate) fn message(buffer: &[u8], length: usize) -> Result<&[u8], Refusal> {
-    if !(HEADER_LENGTH..=MESSAGE_MAX).contains(&length) {
-        return Err(Refusal::whole(1));
-    }
-    buffer.get(..length).ok_or(Refusal::whole(1))
-}
-
-/// The message's header, or refusal 2.
-#[inline]
-pub(crate) fn sound_header(message: &[u8]) -> Result<Header, Refusal> {
-    match Header::of(message) {
-        Some(header) if header.is_sound() => Ok(header),
-        _ => Err(Refusal::whole(2)),
     }
 }

@@ -1,15 +1,17 @@
 //! The listing program's text.
 
-use crate::header::{message, sound_header};
+use crate::layout::Layout;
 use crate::refusal::Refusal;
 use crate::structure::Row;
-use crate::walk::walk_message;
+use crate::walk::walk_part;
 
-/// The listing of a sound message, every line with its newline.
-pub fn list(buffer: &[u8], length: usize) -> Result<String, Refusal> {
-    let header = sound_header(message(buffer, length)?)?;
+/// The listing of a sound message, every line with its newline. The length in
+/// its first line is the whole message's, user data included.
+pub fn list(buffer: &[u8], length: usize, layout: Layout) -> Result<String, Refusal> {
+    let part = layout.pcf_part(buffer, length)?;
+    let header = part.sound_header()?;
     // A line is about as long as the shortest structure.
-    let mut text = Vec::with_capacity(64 + length);
+    let mut text = Vec::with_capacity(64 + part.end());
     text.extend_from_slice(b"pcf ");
     push_line(
         &mut text,
@@ -21,7 +23,7 @@ pub fn list(buffer: &[u8], length: usize) -> Result<String, Refusal> {
         ],
     );
     let mut structures = 0;
-    walk_message(buffer, length, |row| {
+    walk_part(part, |row| {
         push_row(&mut text, row);
         structures += 1;
     })?;
@@ -32,13 +34,13 @@ pub fn list(buffer: &[u8], length: usize) -> Result<String, Refusal> {
 }
 
 /// The listing, or the one line that a refusal prints instead.
-pub fn listing(buffer: &[u8], length: usize) -> String {
-    list(buffer, length).unwrap_or_else(|refusal| refusal.line())
+pub fn listing(buffer: &[u8], length: usize, layout: Layout) -> String {
+    list(buffer, length, layout).unwrap_or_else(|refusal| refusal.line())
 }
 
 /// What the program prints for its whole input.
-pub fn listing_of_input(input: &[u8]) -> String {
-    listing(input, input.len())
+pub fn listing_of_input(input: &[u8], layout: Layout) -> String {
+    listing(input, input.len(), layout)
 }
 
 /// A place in a message is below 65,536, so 32 bits hold it.

@@ -1,11 +1,12 @@
 //! Parts of a message: the n-th Activity group, and names inside it. These
 //! entries give a stand-in instead of a refusal number.
 
+use crate::layout::{Layout, PcfPart};
 use crate::refusal::Refusal;
 use crate::sheet::Sheet;
 use crate::structure::{Row, STRING};
 use crate::trace::{read, ACTIVITY_GROUP};
-use crate::walk::{walk_message, walk_one};
+use crate::walk::{walk_one, walk_part};
 use crate::word::word;
 
 /// A string's StringLength and data, from the structure's start.
@@ -52,9 +53,15 @@ impl Named {
 
 /// The n-th Activity group (from 0) with all its members; none if there is no
 /// such group or if Read refuses message or sheet.
-pub fn activity_group(buffer: &[u8], length: usize, sheet: &Sheet, n: usize) -> Option<Part> {
-    read(buffer, length, sheet).ok()?;
-    nth_group(buffer, length, n).ok()?
+pub fn activity_group(
+    buffer: &[u8],
+    length: usize,
+    layout: Layout,
+    sheet: &Sheet,
+    n: usize,
+) -> Option<Part> {
+    read(buffer, length, layout, sheet).ok()?;
+    nth_group(layout.pcf_part(buffer, length).ok()?, n).ok()?
 }
 
 /// The first direct string with the identifier in the n-th Activity group, up
@@ -63,21 +70,22 @@ pub fn activity_group(buffer: &[u8], length: usize, sheet: &Sheet, n: usize) -> 
 pub fn named_string(
     buffer: &[u8],
     length: usize,
+    layout: Layout,
     sheet: &Sheet,
     n: usize,
     identifier: u32,
 ) -> Named {
-    let part = activity_group(buffer, length, sheet, n)
+    let part = activity_group(buffer, length, layout, sheet, n)
         .and_then(|group| string_in(buffer, group, identifier));
     part.map_or(Named::Substitute, Named::InMessage)
 }
 
-/// The group reaches to the next top-level structure or to the message's end.
-fn nth_group(buffer: &[u8], length: usize, n: usize) -> Result<Option<Part>, Refusal> {
+/// The group reaches to the next top-level structure or to the PCF part's end.
+fn nth_group(part: PcfPart, n: usize) -> Result<Option<Part>, Refusal> {
     let mut groups = 0;
     let mut start = None;
-    let mut end = length;
-    walk_message(buffer, length, |row| {
+    let mut end = part.end();
+    walk_part(part, |row| {
         if row.depth != 1 {
             return;
         }

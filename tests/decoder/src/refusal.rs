@@ -1,6 +1,6 @@
 //! Refusals: a number from the rules' table and a place in the message.
 
-/// A refusal with its number (1 to 17) and place. Places other than 0 occur
+/// A refusal with its number (1 to 18) and place. Places other than 0 occur
 /// with 3, 4 and 5 only.
 #[derive(Clone, Copy, Debug, PartialEq, Eq, Hash)]
 pub struct Refusal {

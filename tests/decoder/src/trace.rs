@@ -1,11 +1,13 @@
-//! Read: a sound trace-route message under a sheet (refusals 17, 1 to 8).
+//! Read: a sound trace-route message under a sheet (refusals 17, 1, 18,
+//! 2 to 8).
 
 use crate::attribute::{Values, ATTRIBUTES};
-use crate::header::{message, sound_header};
+use crate::embedded::Embedding;
+use crate::layout::{Form, Layout};
 use crate::refusal::Refusal;
 use crate::sheet::Sheet;
 use crate::structure::{Row, INTEGER};
-use crate::walk::walk_message;
+use crate::walk::walk_part;
 use crate::word::word;
 
 /// Parameter of the TraceRoute group.
@@ -16,10 +18,21 @@ pub const ACTIVITY_GROUP: u32 = 8005;
 /// Where an integer structure's Value stands in it.
 pub(crate) const VALUE_OFFSET: usize = 12;
 
-/// What Read finds.
+/// What Read gives.
+#[derive(Clone, Copy, Debug, PartialEq, Eq)]
+pub struct Contents {
+    pub values: Values,
+    /// The embedded header's fields; of a plain trace all are zero.
+    pub embedding: Embedding,
+    /// Where the user data begin. Without any, and so in every plain trace, it
+    /// is the message's length.
+    pub user_data_place: usize,
+}
+
+/// What Read gives, and where the values stand.
 #[derive(Clone, Copy, Debug, PartialEq, Eq)]
 pub struct Trace {
-    pub values: Values,
+    pub contents: Contents,
     /// Starts of the eight attributes' integer structures, in the rules'
     /// order; each Value stands 12 bytes behind its start.
     pub places: [usize; ATTRIBUTES],
@@ -33,25 +46,46 @@ impl Trace {
     }
 }
 
-/// The eight values of a trace-route message.
-pub fn read(buffer: &[u8], length: usize, sheet: &Sheet) -> Result<Values, Refusal> {
-    locate(buffer, length, sheet).map(|trace| trace.values)
+/// The eight values of a trace-route message, its embedded header's fields,
+/// and its user data's place.
+pub fn read(
+    buffer: &[u8],
+    length: usize,
+    layout: Layout,
+    sheet: &Sheet,
+) -> Result<Contents, Refusal> {
+    locate(buffer, length, layout, sheet).map(|trace| trace.contents)
 }
 
-/// The eight values and the places of the attributes that hold them.
-pub fn locate(buffer: &[u8], length: usize, sheet: &Sheet) -> Result<Trace, Refusal> {
+/// The same, and the places of the attributes that hold the values.
+pub fn locate(
+    buffer: &[u8],
+    length: usize,
+    layout: Layout,
+    sheet: &Sheet,
+) -> Result<Trace, Refusal> {
     sheet.require_sound()?;
-    let message = message(buffer, length)?;
+    let part = layout.pcf_part(buffer, length)?;
     let mut search = Search::new(sheet);
     // 6, 7 and 8 come after any fault of a structure, so they wait for the end.
-    walk_message(buffer, length, |row| search.visit(message, row))?;
-    if !sound_header(message)?.is_trace_route() {
+    walk_part(part, |row| search.visit(part.bytes, row))?;
+    if !part.sound_header()?.is_trace_route() {
         return Err(Refusal::whole(6));
     }
     if search.trace_route_groups != 1 {
         return Err(Refusal::whole(7));
     }
-    search.trace().ok_or(Refusal::whole(8))
+    let (values, places) = search.attributes().ok_or(Refusal::whole(8))?;
+    let embedding = match layout.form {
+        Form::Plain => None,
+        Form::Embedded => Embedding::of(part.bytes),
+    };
+    let contents = Contents {
+        values,
+        embedding: embedding.unwrap_or(Embedding::NONE),
+        user_data_place: part.end(),
+    };
+    Ok(Trace { contents, places })
 }
 
 /// What the walk has met of the TraceRoute group.
@@ -99,8 +133,9 @@ impl<'a> Search<'a> {
         }
     }
 
-    /// The trace, if each attribute was met once, as an integer in its range.
-    fn trace(&self) -> Option<Trace> {
+    /// Values and places, if each attribute was met once, as an integer in its
+    /// range.
+    fn attributes(&self) -> Option<(Values, [usize; ATTRIBUTES])> {
         let mut values = [0; ATTRIBUTES];
         let mut places = [0; ATTRIBUTES];
         for (attribute, found) in self.found.iter().enumerate() {
@@ -108,6 +143,6 @@ impl<'a> Search<'a> {
         }
         let values = Values::from_array(values);
         let sound = !self.fault && values.in_range();
-        sound.then_some(Trace { values, places })
+        sound.then_some((values, places))
     }
 }

@@ -3,23 +3,23 @@
 //! The counts still due are kept in a small array instead of on the call
 //! stack: one for the header and one for each of at most eight open groups.
 
-use crate::header::{message, sound_header, HEADER_LENGTH};
+use crate::layout::PcfPart;
 use crate::refusal::Refusal;
 use crate::structure::{structure_at, Row, DEEPEST_GROUP};
 
 const LEVELS: usize = DEEPEST_GROUP as usize + 1;
 
-/// Walks over a message and shows each sound structure to `visit`, up to the
-/// first fault: refusals 1 to 5.
+/// Walks over a message's PCF part and shows each sound structure to `visit`,
+/// up to the first fault: refusals 2 to 5, with places in the message.
 #[inline]
-pub(crate) fn walk_message(
-    buffer: &[u8],
-    length: usize,
-    visit: impl FnMut(&Row),
-) -> Result<(), Refusal> {
-    let bytes = message(buffer, length)?;
-    let header = sound_header(bytes)?;
-    walk(bytes, HEADER_LENGTH, header.parameter_count, visit)
+pub(crate) fn walk_part(part: PcfPart, visit: impl FnMut(&Row)) -> Result<(), Refusal> {
+    let header = part.sound_header()?;
+    walk(
+        part.bytes,
+        part.first_place(),
+        header.parameter_count,
+        visit,
+    )
 }
 
 /// Walks over one structure that is to fill the bytes, as if at top level:

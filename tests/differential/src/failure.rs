@@ -1,5 +1,6 @@
 //! What a failing case prints of itself.
 
+use crate::compare::given::Given;
 use std::fmt::Write;
 use std::thread;
 
@@ -27,7 +28,12 @@ pub fn hex(name: &str, bytes: &[u8]) -> String {
     text
 }
 
-/// The dump of a lent buffer whose first `length` bytes are the message.
-pub fn lent(buffer: &[u8], length: usize) -> String {
-    format!("length {length} of {}", hex("buffer", buffer))
+/// A message as a call was given it, and the other words for the same bytes.
+pub fn given(given: &Given, other: &Given) -> String {
+    let words = |given: &Given| {
+        let (length, options) = (given.length, given.options());
+        format!("length {length}, options {options:#x}")
+    };
+    let bytes = hex("buffer", given.buffer);
+    format!("{}; or {}\n{bytes}", words(given), words(other))
 }

@@ -2,6 +2,7 @@
 //! outside of what is lent ends the program.
 
 use std::ffi::{c_int, c_long, c_void};
+use std::ops::{Deref, DerefMut};
 use std::{ptr, slice};
 
 // The C library is linked by Rust's own anyway.
@@ -15,11 +16,14 @@ extern "C" {
         from: c_long,
     ) -> *mut c_void;
     fn mprotect(at: *mut c_void, size: usize, may: c_int) -> c_int;
+    fn munmap(at: *mut c_void, size: usize) -> c_int;
 }
 
 const NOTHING: c_int = 0;
 const READ_AND_WRITE: c_int = 3;
 const PRIVATE_AND_EMPTY: c_int = 0x22;
+/// Of such memory only what is written takes any.
+const UNRESERVED: c_int = PRIVATE_AND_EMPTY | 0x4000;
 
 /// A multiple of every page size in use.
 const PAGE: usize = 65_536;
@@ -75,5 +79,52 @@ impl Guarded {
         let lent = unsafe { slice::from_raw_parts_mut(self.first.add(offset), bytes.len()) };
         lent.copy_from_slice(bytes);
         lent
+    }
+}
+
+/// Memory of a size that 32 bits don't hold, which is there to be lent, not to be
+/// read. It is given back when it is dropped.
+pub struct Huge {
+    base: *mut u8,
+    size: usize,
+}
+
+impl Huge {
+    /// So much memory as is asked for, with these bytes at its start and zeros
+    /// behind.
+    pub fn new(bytes: &[u8], size: usize) -> Huge {
+        assert!(bytes.len() <= size);
+        // SAFETY: this asks for fresh memory at no certain place.
+        let base = unsafe { mmap(ptr::null_mut(), size, READ_AND_WRITE, UNRESERVED, -1, 0) };
+        assert!(base as isize != -1, "no memory");
+        let base = base.cast();
+        let mut huge = Huge { base, size };
+        huge[..bytes.len()].copy_from_slice(bytes);
+        huge
+    }
+}
+
+impl Deref for Huge {
+    type Target = [u8];
+
+    fn deref(&self) -> &[u8] {
+        // SAFETY: all of it was given to us, is zero or what was written there,
+        // and is borrowed with `self`.
+        unsafe { slice::from_raw_parts(self.base, self.size) }
+    }
+}
+
+impl DerefMut for Huge {
+    fn deref_mut(&mut self) -> &mut [u8] {
+        // SAFETY: as above, and nobody else has it.
+        unsafe { slice::from_raw_parts_mut(self.base, self.size) }
+    }
+}
+
+impl Drop for Huge {
+    fn drop(&mut self) {
+        // SAFETY: this is what was given to us, and nothing borrows it any more.
+        let failed = unsafe { munmap(self.base.cast(), self.size) };
+        assert_eq!(failed, 0, "not given back");
     }
 }

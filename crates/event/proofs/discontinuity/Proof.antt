@@ -1,8 +1,9 @@
 -- `discontinuity` meets its contract.
-use mathlib.Core.Path.{_∙_}
+use mathlib.Core.Path.{refl, _∙_}
 use borrow.Author.Needs.{needs}
-use Rattle.event.proofs.Found.{unread-event, is-countable, counted-event}
 use Rattle.meaning.specs.Event.{discontinuity}
+use Rattle.verdict.specs.Plans.{settingsOf}
+use Rattle.event.proofs.Found.{unread-event, is-countable, counted-event}
 use Rattle.event.proofs.discontinuity.Statement.{statement}
 use Rattle.event.proofs.discontinuity.Tie as tie
 
@@ -13,8 +14,8 @@ discontinuity-spec =
     (λ c κs. search needs)
     (λ c. search needs)
     (λ c. search needs)
-    (λ c κs. is-countable _ _ _ _ (c .before .before .before .before .before .trace-of .ensures) (c .before .before .before .enum-told .given .1))
+    (λ c κs. is-countable _ _ _ (c .before .before .before .before .before .before .before .before .args .settings) _ (c .before .before .before .before .before .trace-of .ensures) (c .before .before .before .enum-told .given .1))
     (λ c. search needs)
-    (λ c report. unread-event _ _ _ _ (c .before .before .before .trace-of .ensures) _ (c .before .sought .given .1) report discontinuity)
+    (λ c report. unread-event _ _ _ (c .before .before .before .before .before .before .args .settings) _ (c .before .before .before .trace-of .ensures) _ (c .before .sought .given .1) report (discontinuity (settingsOf (c .before .before .before .before .before .before .args .settings))) refl)
     (λ c. search needs)
-    (λ c report. c .before .before .count .ensures report ∙ counted-event _ _ _ _ (c .before .before .before .before .before .before .before .before .trace-of .ensures) (c .before .before .before .before .before .before .enum-told .given .1) report))
+    (λ c report. c .before .before .count .ensures report ∙ counted-event _ _ _ (c .before .before .before .before .before .before .before .before .before .before .before .args .settings) _ (c .before .before .before .before .before .before .before .before .trace-of .ensures) (c .before .before .before .before .before .before .enum-told .given .1) report))

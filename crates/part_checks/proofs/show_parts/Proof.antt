@@ -5,10 +5,10 @@ use Rattle.part_checks.proofs.show_parts.Statement.{statement}
 use Rattle.part_checks.proofs.show_parts.Tie as tie
 
 abbrev Inv-loop : tie.InvT-loop
-Inv-loop msg len sheet groups n₀ n = n ≤ groups
+Inv-loop msg len layout sheet groups n₀ n = n ≤ groups
 
 abbrev μ-loop : tie.MeasureT-loop
-μ-loop msg len sheet groups n₀ n = groups - n
+μ-loop msg len layout sheet groups n₀ n = groups - n
 
 pub show-parts-spec : {M : Type 1} → statement M
 show-parts-spec =

@@ -5,10 +5,10 @@ use Rattle.part_checks.proofs.show_reader.Statement.{statement}
 use Rattle.part_checks.proofs.show_reader.Tie as tie
 
 abbrev Inv-loop : tie.InvT-loop
-Inv-loop msg tops k₀ k = k ≤ tops
+Inv-loop msg layout tops k₀ k = k ≤ tops
 
 abbrev μ-loop : tie.MeasureT-loop
-μ-loop msg tops k₀ k = tops - k
+μ-loop msg layout tops k₀ k = tops - k
 
 pub show-reader-spec : {M : Type 1} → statement M
 show-reader-spec =

@@ -9,13 +9,13 @@ use borrow.Author.Needs.{needs}
 use Rattle.refusals.specs.Refusals.{owed}
 use Rattle.refusals.specs.declared.Refusal.{Refusal}
 use Rattle.refusals.proofs.Refusal.{the-type}
-use Rattle.refusals.specs.declared.Refusal.the-variants.{BadLength, BadHeader, BadStructure, TooDeep, LeftOver, NoTraceHeader, NoTraceRoute, BadAttribute, BadGroup, MaxActivities, CounterFull, NoRoom, ReportTooShort, UnsupportedDelivery, UnsupportedForwarding, NotForwarded, BadSheet}
+use Rattle.refusals.specs.declared.Refusal.the-variants.{BadLength, BadHeader, BadStructure, TooDeep, LeftOver, NoTraceHeader, NoTraceRoute, BadAttribute, BadGroup, MaxActivities, CounterFull, NoRoom, ReportTooShort, UnsupportedDelivery, UnsupportedForwarding, NotForwarded, BadSheet, BadEmbeddedHeader}
 use Rattle.refusals.proofs.reply_owed.Statement.{statement}
 use Rattle.refusals.proofs.reply_owed.Tie as tie
 
 -- the cases under the last arm, by their positions
 abbrev rest : List ℕ
-rest = 0 ∷ 1 ∷ 2 ∷ 3 ∷ 4 ∷ 5 ∷ 6 ∷ 7 ∷ 8 ∷ 10 ∷ 11 ∷ 12 ∷ 13 ∷ 14 ∷ 15 ∷ 16 ∷ []
+rest = 0 ∷ 1 ∷ 2 ∷ 3 ∷ 4 ∷ 5 ∷ 6 ∷ 7 ∷ 8 ∷ 10 ∷ 11 ∷ 12 ∷ 13 ∷ 14 ∷ 15 ∷ 16 ∷ 17 ∷ []
 
 elsewhere : (r : Refusal) → OneOf rest (tagOf the-type r) → false ≡ owed r
 elsewhere (MaxActivities owed) h = absurd (miss rest 9 tt h)
@@ -35,6 +35,7 @@ elsewhere UnsupportedDelivery h = refl
 elsewhere UnsupportedForwarding h = refl
 elsewhere NotForwarded h = refl
 elsewhere BadSheet h = refl
+elsewhere BadEmbeddedHeader h = refl
 
 pub reply-owed-spec : {M : Type 1} → statement M
 reply-owed-spec =

@@ -2,14 +2,17 @@
 //! too deep, left-over bytes, wrong header fields.
 
 use super::build::Piece;
-use super::lend::{lend, wrong_length, Lent};
+use super::damage_embedded::damage_embedded;
+use super::layout::{bytes_before, other_layout};
+use super::lend::{lend, other_length, wrong_length, Lent};
 use super::message::sound_message;
 use super::random::Random;
 use super::tree::deep_chain;
 use super::NAMES;
 use crate::check::rows;
+use crate::layout::{Form, Layout};
 use crate::structure::Row;
-use crate::word::{put_word, word};
+use crate::word::{put_bytes, put_word, word};
 
 /// Numbers at the edges: the 2^31 bound, and factors that wrap to small
 /// products or sums in 32 bits.
@@ -26,23 +29,45 @@ const EDGES: [u32; 10] = [
     u32::MAX,
 ];
 
-/// A sound message with one or two damages, or with a wrong length.
-pub fn damaged_message(random: &mut Random) -> Lent {
-    let mut bytes = sound_message(random).bytes;
-    if random.chance(8) {
-        let mut lent = lend(random, bytes);
-        wrong_length(random, &mut lent);
+/// A sound message with one or two damages, or with another length or layout
+/// than its own.
+pub fn damaged_message(random: &mut Random, layout: Layout) -> Lent {
+    let message = sound_message(random, layout).bytes;
+    let mut lent = lend(random, layout, message);
+    if misname(random, &mut lent) {
         return lent;
     }
-    damage(random, &mut bytes);
+    lent.buffer.truncate(lent.length);
+    let mut bytes = lent.buffer;
+    damage(random, layout, &mut bytes);
     if random.chance(10) {
-        damage(random, &mut bytes);
+        damage(random, layout, &mut bytes);
     }
-    lend(random, bytes)
+    lend(random, layout, bytes)
 }
 
-/// Damages the bytes of a message in one way.
-pub fn damage(random: &mut Random, bytes: &mut Vec<u8>) {
+/// Now and then names a length that gives 1, another length, or another layout;
+/// the bytes stay. Whether it did is the answer.
+pub(super) fn misname(random: &mut Random, lent: &mut Lent) -> bool {
+    match random.below(100) {
+        0..=7 => wrong_length(random, lent),
+        8..=11 => other_length(random, lent),
+        12..=16 => lent.layout = other_layout(lent.layout),
+        _ => return false,
+    }
+    true
+}
+
+/// Damages the bytes of a message of this layout in one way.
+pub fn damage(random: &mut Random, layout: Layout, bytes: &mut Vec<u8>) {
+    match layout.form {
+        Form::Plain => damage_part(random, bytes),
+        Form::Embedded => damage_embedded(random, bytes),
+    }
+}
+
+/// Damages a PCF part, which a plain message is as a whole.
+pub(super) fn damage_part(random: &mut Random, bytes: &mut Vec<u8>) {
     match random.below(17) {
         0 | 1 => cut(random, bytes),
         2 => flip(random, bytes),
@@ -55,16 +80,23 @@ pub fn damage(random: &mut Random, bytes: &mut Vec<u8>) {
     }
 }
 
-/// Bytes without any sense, sometimes behind a sound header.
-pub fn noise(random: &mut Random) -> Lent {
-    let length = random.pick(&[0, 35, 36, 37, 52, 100, 1000]) + random.below(40);
+/// Bytes without any sense, sometimes behind sound headers.
+pub fn noise(random: &mut Random, layout: Layout) -> Lent {
+    let start = bytes_before(layout);
+    let length = random.pick(&[0, 35, 36, 37, 52, 100, 1000]) + start + random.below(40);
     let mut bytes = random.bytes(length);
-    if random.chance(70) && bytes.len() >= 36 {
-        put_word(&mut bytes, 4, 36);
-        put_word(&mut bytes, 8, 3);
-        put_word(&mut bytes, 32, random.below(4) as u32);
+    if random.chance(70) && bytes.len() >= start + 36 {
+        if layout.form == Form::Embedded {
+            put_bytes(&mut bytes, 0, b"EPH ");
+            put_word(&mut bytes, 4, 1);
+            let end = random.between(68, length) & !3;
+            put_word(&mut bytes, 8, end as u32);
+        }
+        put_word(&mut bytes, start + 4, 36);
+        put_word(&mut bytes, start + 8, 3);
+        put_word(&mut bytes, start + 32, random.below(4) as u32);
     }
-    lend(random, bytes)
+    lend(random, layout, bytes)
 }
 
 fn cut(random: &mut Random, bytes: &mut Vec<u8>) {
@@ -77,7 +109,7 @@ fn cut(random: &mut Random, bytes: &mut Vec<u8>) {
     bytes.truncate(bytes.len().saturating_sub(less));
 }
 
-fn flip(random: &mut Random, bytes: &mut [u8]) {
+pub(super) fn flip(random: &mut Random, bytes: &mut [u8]) {
     let place = random.below(bytes.len());
     if let Some(byte) = bytes.get_mut(place) {
         *byte ^= 1 << random.below(8);
@@ -97,7 +129,7 @@ fn spoilt(random: &mut Random, old: u32) -> u32 {
 
 /// Type, StrucLength, or one of the three fields that may be a count or length.
 fn spoil_structure(random: &mut Random, bytes: &mut Vec<u8>) {
-    let Ok(rows) = rows(bytes, bytes.len()) else {
+    let Ok(rows) = rows(bytes, bytes.len(), Layout::PLAIN) else {
         return cut(random, bytes);
     };
     let Some(row) = rows.get(random.below(rows.len())) else {
@@ -153,7 +185,7 @@ fn left_over(random: &mut Random, bytes: &mut Vec<u8>) {
 }
 
 /// Mostly one of the two fields that every message must have right.
-fn spoil_header(random: &mut Random, bytes: &mut [u8]) {
+pub(super) fn spoil_header(random: &mut Random, bytes: &mut [u8]) {
     let place = if random.chance(65) {
         random.pick(&[4, 8])
     } else {
@@ -167,7 +199,7 @@ fn spoil_header(random: &mut Random, bytes: &mut [u8]) {
 /// The header's count, or that of some group.
 fn spoil_count(random: &mut Random, bytes: &mut [u8]) {
     let mut places = vec![32];
-    if let Ok(rows) = rows(bytes, bytes.len()) {
+    if let Ok(rows) = rows(bytes, bytes.len(), Layout::PLAIN) {
         places.extend(
             rows.iter()
                 .filter(|row| row.is_group())

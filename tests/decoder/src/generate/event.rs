@@ -1,15 +1,19 @@
 //! Lists of events on one trace.
 
 use super::group::lent_group;
+use super::layout::other_layout;
 use super::random::Random;
 use super::trace::{any_trace, sound_trace, TraceCase};
+use super::user_data::fill;
 use crate::event::{Activity, Event, Level, Settings};
+use crate::header::MESSAGE_MAX;
+use crate::layout::{Form, Layout};
 use crate::sheet::Sheet;
 
 /// An event that owns its lent group.
 #[derive(Clone, Debug, PartialEq, Eq)]
 pub enum Step {
-    Discontinuity,
+    Discontinuity(Settings),
     Activity {
         level: Level,
         group: Vec<u8>,
@@ -21,7 +25,7 @@ pub enum Step {
 impl Step {
     pub fn event(&self) -> Event<'_> {
         match self {
-            Step::Discontinuity => Event::Discontinuity,
+            Step::Discontinuity(settings) => Event::Discontinuity(*settings),
             Step::Activity {
                 level,
                 group,
@@ -38,8 +42,14 @@ impl Step {
 
     fn group_length(&self) -> usize {
         match self {
-            Step::Discontinuity => 0,
+            Step::Discontinuity(_) => 0,
             Step::Activity { group, .. } => group.len(),
+        }
+    }
+
+    fn layout(&mut self) -> &mut Layout {
+        match self {
+            Step::Discontinuity(settings) | Step::Activity { settings, .. } => &mut settings.layout,
         }
     }
 }
@@ -49,74 +59,117 @@ impl Step {
 pub struct Scenario {
     pub buffer: Vec<u8>,
     pub length: usize,
+    /// The layout that the trace is to be read in; each event names its own.
+    pub layout: Layout,
     pub sheet: Sheet,
     pub report: Vec<u8>,
     pub events: Vec<Step>,
 }
 
-/// Events on a trace that is mostly sound.
-pub fn scenario(random: &mut Random) -> Scenario {
+/// Events on a trace that is mostly sound; a few events name another layout
+/// than the trace's.
+pub fn scenario(random: &mut Random, layout: Layout) -> Scenario {
     let case = if random.chance(70) {
-        sound_trace(random)
+        sound_trace(random, layout)
     } else {
-        any_trace(random)
+        any_trace(random, layout)
     };
+    let mut scenario = stage(random, case);
+    for step in &mut scenario.events {
+        if random.chance(2) {
+            let layout = step.layout();
+            *layout = other_layout(*layout);
+        }
+    }
+    scenario
+}
+
+/// Events on a sound trace, all of which name its layout.
+pub fn sound_scenario(random: &mut Random, layout: Layout) -> Scenario {
+    let case = sound_trace(random, layout);
     stage(random, case)
 }
 
-/// Events on a sound trace.
-pub fn sound_scenario(random: &mut Random) -> Scenario {
-    let case = sound_trace(random);
-    stage(random, case)
-}
-
-fn stage(random: &mut Random, case: TraceCase) -> Scenario {
-    let events = events(random, &case.sheet);
-    let mut buffer = case.lent.buffer;
+fn stage(random: &mut Random, mut case: TraceCase) -> Scenario {
+    let events = events(random, case.lent.layout, &case.sheet);
     // A wrong length stays wrong: only a message inside its buffer gets room.
-    if case.lent.length <= buffer.len() && buffer.len() <= 65_536 {
-        buffer.truncate(case.lent.length);
-        let room = room(random, &events);
-        buffer.extend(random.bytes(room));
+    if case.lent.length <= case.lent.buffer.len() && case.lent.buffer.len() <= MESSAGE_MAX {
+        case.lent.buffer.truncate(case.lent.length);
+        let room = if crowd_out(random, &mut case, &events) {
+            // Here the most bytes of a message are to be what there is no room in.
+            all_groups(&events) + random.below(100)
+        } else {
+            room(random, &events)
+        };
+        case.lent.buffer.extend(random.bytes(room));
     }
     let report_size = report_size(random, &events);
     Scenario {
-        buffer,
+        buffer: case.lent.buffer,
         length: case.lent.length,
+        layout: case.lent.layout,
         sheet: case.sheet,
         report: random.bytes(report_size),
         events,
     }
 }
 
-fn events(random: &mut Random, sheet: &Sheet) -> Vec<Step> {
+/// Now and then has the user data of an embedded trace leave just as much of a
+/// message's most bytes as one of the groups needs, or all of them, or one byte
+/// less. Whether it did is the answer.
+fn crowd_out(random: &mut Random, case: &mut TraceCase, events: &[Step]) -> bool {
+    let groups = if random.chance(60) {
+        events[random.below(events.len())].group_length()
+    } else {
+        all_groups(events)
+    };
+    let length = MESSAGE_MAX.saturating_sub(groups) + random.pick(&[0, 1]);
+    let place = case.user_data_place;
+    let possible = place <= case.lent.length && place <= length && groups > 0;
+    if case.lent.layout.form == Form::Plain || !possible || !random.chance(15) {
+        return false;
+    }
+    case.lent.buffer.truncate(length);
+    fill(random, &mut case.lent.buffer, length);
+    case.lent.length = length;
+    true
+}
+
+fn events(random: &mut Random, layout: Layout, sheet: &Sheet) -> Vec<Step> {
     let most = random.pick(&[1, 3, 6, 12]);
     let count = random.between(1, most);
-    (0..count).map(|_| step(random, sheet)).collect()
+    (0..count).map(|_| step(random, layout, sheet)).collect()
 }
 
 /// Reports and settings are mostly on: many activities that are to be recorded
 /// find no room, and still most of the accepted ones shall be recorded.
-fn step(random: &mut Random, sheet: &Sheet) -> Step {
+fn step(random: &mut Random, layout: Layout, sheet: &Sheet) -> Step {
+    let settings = Settings {
+        activity_recording: random.chance(85),
+        trace_route_messaging: random.chance(85),
+        layout,
+    };
     if random.chance(25) {
-        return Step::Discontinuity;
+        return Step::Discontinuity(settings);
     }
     Step::Activity {
         level: Level::ALL[random.below(3)],
         group: lent_group(random, sheet),
         reports_asked: random.chance(70),
-        settings: Settings {
-            activity_recording: random.chance(85),
-            trace_route_messaging: random.chance(85),
-        },
+        settings,
     }
+}
+
+/// Bytes of the events' groups together.
+fn all_groups(events: &[Step]) -> usize {
+    events.iter().map(Step::group_length).sum()
 }
 
 /// Room behind the message: none, for one of the groups, for all of them, or
 /// one byte less.
 fn room(random: &mut Random, events: &[Step]) -> usize {
     let one = events[random.below(events.len())].group_length();
-    let all: usize = events.iter().map(Step::group_length).sum();
+    let all = all_groups(events);
     match random.below(8) {
         0 => 0,
         1 => one,

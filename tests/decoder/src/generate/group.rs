@@ -1,7 +1,7 @@
 //! Lent Activity groups, sound and unsound.
 
 use super::build::Piece;
-use super::damage::damage;
+use super::damage::damage_part;
 use super::leaf::{filler, string};
 use super::random::Random;
 use super::tree::{chain, forest};
@@ -82,7 +82,7 @@ pub fn lent_group(random: &mut Random, sheet: &Sheet) -> Vec<u8> {
             put_word(&mut message, 8, 3);
             put_word(&mut message, 32, 1);
             message.extend(sound_group(random, sheet));
-            damage(random, &mut message);
+            damage_part(random, &mut message);
             message.split_off(36.min(message.len()))
         }
     }

@@ -3,13 +3,15 @@
 use super::event::{sound_scenario, Scenario};
 use super::random::Random;
 use crate::attribute::{Values, COUNTER_MAX};
+use crate::layout::Layout;
 use crate::trace::{locate, Trace};
 use crate::word::put_word;
 
 const MAX_ACTIVITIES: usize = 4;
 
-/// Two sound traces with the same sheet, buffer size, report buffer and
-/// events; the second's limit is larger, or there is none.
+/// Two sound traces with the same layout, sheet, buffer size, report buffer and
+/// events, which all name that layout; the second's limit is larger, or there
+/// is none.
 #[derive(Clone, Debug, PartialEq, Eq)]
 pub struct Pair {
     pub first: Scenario,
@@ -20,10 +22,10 @@ pub struct Pair {
 }
 
 /// A pair; none only if the decoder refuses what is built to be sound.
-pub fn pair(random: &mut Random) -> Option<Pair> {
-    let (mut first, trace) = start(random)?;
+pub fn pair(random: &mut Random, layout: Layout) -> Option<Pair> {
+    let (mut first, trace) = start(random, layout)?;
     let limit_place = trace.value_place(MAX_ACTIVITIES)?;
-    let (smaller, larger) = limits(random, &trace.values);
+    let (smaller, larger) = limits(random, &trace.contents.values);
     put_word(&mut first.buffer, limit_place, smaller);
     let mut second = first.buffer.clone();
     put_word(&mut second, limit_place, larger);
@@ -40,11 +42,11 @@ pub fn pair(random: &mut Random) -> Option<Pair> {
 
 /// A sound trace with its events. Counters near their end leave hardly any
 /// room below a limit, so most of those are drawn again.
-fn start(random: &mut Random) -> Option<(Scenario, Trace)> {
+fn start(random: &mut Random, layout: Layout) -> Option<(Scenario, Trace)> {
     loop {
-        let scenario = sound_scenario(random);
-        let trace = locate(&scenario.buffer, scenario.length, &scenario.sheet).ok()?;
-        if trace.values.sum() + 20 < u64::from(COUNTER_MAX) || random.chance(10) {
+        let scenario = sound_scenario(random, layout);
+        let trace = locate(&scenario.buffer, scenario.length, layout, &scenario.sheet).ok()?;
+        if trace.contents.values.sum() + 20 < u64::from(COUNTER_MAX) || random.chance(10) {
             return Some((scenario, trace));
         }
     }

@@ -1,19 +1,33 @@
 //! Places and depths for the walk one structure at a time.
 
+use super::damage_embedded::claimed_end;
+use super::layout::bytes_before;
 use super::lend::Lent;
 use super::random::Random;
 use crate::check::rows;
+use crate::layout::Form;
 
 /// A place and a depth: mostly where a structure stands, but also inside the
-/// header or a structure, at the end, and far behind it.
+/// headers or a structure, around the PCF part's end, in the user data, at the
+/// message's end, and far behind it.
 pub fn any_place(random: &mut Random, lent: &Lent) -> (usize, u32) {
     let length = lent.length.min(lent.buffer.len());
-    let place = match random.below(10) {
-        0..=4 => structure(random, lent).unwrap_or(36),
-        5 => 4 * random.below(length / 4 + 2),
-        6 => random.below(length + 2),
-        7 => length.saturating_sub(random.below(24)),
-        8 => length.saturating_add(random.below(24)),
+    let end = match lent.layout.form {
+        Form::Plain => length,
+        Form::Embedded => claimed_end(&lent.buffer[..length]),
+    };
+    let first = bytes_before(lent.layout) + 36;
+    let place = match random.below(18) {
+        0..=7 => structure(random, lent).unwrap_or(first),
+        8 => 4 * random.below(length / 4 + 2),
+        9 => random.below(length + 2),
+        10 => random.pick(&[0, 12, 12, 12, 12, first - 36]),
+        11 => first - 36,
+        12 => random.below(first),
+        13 => end.saturating_sub(random.below(24)),
+        14 => end,
+        15 => random.between(end, length),
+        16 => length.saturating_add(random.below(24)),
         _ => usize::MAX - random.below(24),
     };
     let depth = match random.below(8) {
@@ -27,6 +41,6 @@ pub fn any_place(random: &mut Random, lent: &Lent) -> (usize, u32) {
 }
 
 fn structure(random: &mut Random, lent: &Lent) -> Option<usize> {
-    let rows = rows(&lent.buffer, lent.length).ok()?;
+    let rows = rows(&lent.buffer, lent.length, lent.layout).ok()?;
     rows.get(random.below(rows.len())).map(|row| row.place)
 }

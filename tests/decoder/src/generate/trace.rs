@@ -1,15 +1,19 @@
 //! Trace-route messages: sound ones with decoys, and faulty ones.
 
 use super::build::{assemble, size, Piece};
-use super::damage::damage;
+use super::damage::{damage, misname};
 use super::decoy::{further_members, other_structures};
+use super::embed::lay_out;
+use super::layout::bytes_before;
 use super::leaf::filler;
-use super::lend::{lend, wrong_length, Lent};
+use super::lend::{lend, Lent};
 use super::random::Random;
 use super::sheet::{sound_sheet, unsound_sheet};
 use super::values::{out_of_range, values};
 use crate::attribute::Values;
+use crate::embedded::Embedding;
 use crate::header::{Header, HEADER_LENGTH, MESSAGE_MAX};
+use crate::layout::Layout;
 use crate::sheet::Sheet;
 use crate::trace::TRACE_ROUTE_GROUP;
 
@@ -18,9 +22,11 @@ use crate::trace::TRACE_ROUTE_GROUP;
 pub struct TraceCase {
     pub lent: Lent,
     pub sheet: Sheet,
-    /// The values of a sound trace; those of another one are only what it was
-    /// made from.
+    /// What Read is to give of a sound trace; of another one it is only what
+    /// this was made from.
     pub values: Values,
+    pub embedding: Embedding,
+    pub user_data_place: usize,
 }
 
 /// Faults of a trace whose structures are sound. The first gives 6, the next
@@ -51,6 +57,7 @@ pub const FAULTS: [Fault; 8] = [
 
 /// A trace in pieces, so that faults can be put in before it is assembled.
 struct Draft {
+    layout: Layout,
     sheet: Sheet,
     values: Values,
     fields: [u32; 8],
@@ -63,27 +70,32 @@ struct Draft {
 }
 
 /// A sound trace under a random sound sheet.
-pub fn sound_trace(random: &mut Random) -> TraceCase {
+pub fn sound_trace(random: &mut Random, layout: Layout) -> TraceCase {
     let sheet = sound_sheet(random);
     let values = values(random);
-    sound_trace_with(random, sheet, values)
+    sound_trace_with(random, layout, sheet, values)
 }
 
 /// A sound trace with the given sheet and values, which must be sound.
-pub fn sound_trace_with(random: &mut Random, sheet: Sheet, values: Values) -> TraceCase {
-    let mut draft = Draft::new(random, sheet, values);
+pub fn sound_trace_with(
+    random: &mut Random,
+    layout: Layout,
+    sheet: Sheet,
+    values: Values,
+) -> TraceCase {
+    let mut draft = Draft::new(random, layout, sheet, values);
     draft.enlarge(random);
     draft.finish(random, 1)
 }
 
 /// A trace with sound structures and these faults, under a sound sheet.
-pub fn faulty_trace(random: &mut Random, faults: &[Fault]) -> TraceCase {
+pub fn faulty_trace(random: &mut Random, layout: Layout, faults: &[Fault]) -> TraceCase {
     let sheet = sound_sheet(random);
     let mut values = values(random);
     if faults.contains(&Fault::OutOfRange) {
         out_of_range(random, &mut values);
     }
-    let mut draft = Draft::new(random, sheet, values);
+    let mut draft = Draft::new(random, layout, sheet, values);
     for &fault in faults {
         draft.spoil(random, fault);
     }
@@ -95,22 +107,21 @@ pub fn faulty_trace(random: &mut Random, faults: &[Fault]) -> TraceCase {
     draft.finish(random, groups)
 }
 
-/// A trace with damaged bytes or a wrong length, or an unsound sheet; now and
-/// then it had a fault before, so that the refusals' order is tried.
-pub fn damaged_trace(random: &mut Random) -> TraceCase {
+/// A trace with damaged bytes, with another length or layout than its own, or
+/// with an unsound sheet; now and then it had a fault before, so that the
+/// refusals' order is tried.
+pub fn damaged_trace(random: &mut Random, layout: Layout) -> TraceCase {
     let mut case = if random.chance(25) {
-        some_faults(random)
+        some_faults(random, layout)
     } else {
-        sound_trace(random)
+        sound_trace(random, layout)
     };
-    match random.below(10) {
-        0 => wrong_length(random, &mut case.lent),
-        1 => case.sheet = unsound_sheet(random),
-        _ => {
-            case.lent.buffer.truncate(case.lent.length);
-            damage(random, &mut case.lent.buffer);
-            case.lent = lend(random, case.lent.buffer);
-        }
+    if random.chance(10) {
+        case.sheet = unsound_sheet(random);
+    } else if !misname(random, &mut case.lent) {
+        case.lent.buffer.truncate(case.lent.length);
+        damage(random, layout, &mut case.lent.buffer);
+        case.lent = lend(random, layout, case.lent.buffer);
     }
     if random.chance(3) {
         case.sheet = unsound_sheet(random);
@@ -119,23 +130,23 @@ pub fn damaged_trace(random: &mut Random) -> TraceCase {
 }
 
 /// One fault or two.
-fn some_faults(random: &mut Random) -> TraceCase {
+fn some_faults(random: &mut Random, layout: Layout) -> TraceCase {
     let faults = [random.pick(&FAULTS), random.pick(&FAULTS)];
     let number = random.pick(&[1, 1, 2]);
-    faulty_trace(random, &faults[..number])
+    faulty_trace(random, layout, &faults[..number])
 }
 
-/// A mix: mostly sound, then faulty, then damaged.
-pub fn any_trace(random: &mut Random) -> TraceCase {
-    match random.below(10) {
-        0..=5 => sound_trace(random),
-        6 | 7 => some_faults(random),
-        _ => damaged_trace(random),
+/// A mix: mostly sound, then damaged, then faulty.
+pub fn any_trace(random: &mut Random, layout: Layout) -> TraceCase {
+    match random.below(11) {
+        0..=5 => sound_trace(random, layout),
+        6 | 7 => some_faults(random, layout),
+        _ => damaged_trace(random, layout),
     }
 }
 
 impl Draft {
-    fn new(random: &mut Random, sheet: Sheet, values: Values) -> Draft {
+    fn new(random: &mut Random, layout: Layout, sheet: Sheet, values: Values) -> Draft {
         let pairs = sheet.identifiers.into_iter().zip(values.to_array());
         let mut attributes: Vec<Piece> = pairs
             .map(|(identifier, value)| Piece::integer(identifier, value))
@@ -146,6 +157,7 @@ impl Draft {
         let mut fields = [0; 8];
         fields.copy_from_slice(&Header::TRACE_ROUTE.fields()[..8]);
         Draft {
+            layout,
             sheet,
             values,
             fields,
@@ -160,7 +172,8 @@ impl Draft {
         if !random.chance(3) {
             return;
         }
-        let used = HEADER_LENGTH + 16 + 128 + size(&self.further) + size(&self.others);
+        let own = bytes_before(self.layout) + HEADER_LENGTH + 16 + 128;
+        let used = own + size(&self.further) + size(&self.others);
         let spare = random.pick(&[0, 0, 16, 20, 100, 200]);
         let long = MESSAGE_MAX.saturating_sub(used + spare);
         if long >= 20 {
@@ -198,11 +211,14 @@ impl Draft {
             let place = random.below(self.others.len() + 1);
             self.others.insert(place, trace_route.clone());
         }
-        let message = assemble(self.fields, &self.others);
+        let part = assemble(self.fields, &self.others);
+        let laid = lay_out(random, self.layout, part);
         TraceCase {
-            lent: lend(random, message),
+            lent: lend(random, self.layout, laid.bytes),
             sheet: self.sheet,
             values: self.values,
+            embedding: laid.embedding,
+            user_data_place: laid.user_data_place,
         }
     }
 }

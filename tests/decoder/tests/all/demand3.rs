@@ -8,8 +8,10 @@ use decoder::*;
 struct Side {
     buffer: Vec<u8>,
     length: usize,
+    layout: Layout,
     sheet: Sheet,
     report: Vec<u8>,
+    user_data: Vec<u8>,
     start: u64,
     accepted: u64,
     rejected: bool,
@@ -22,19 +24,30 @@ impl Side {
         let mut side = Side {
             buffer: buffer.to_vec(),
             length: pair.first.length,
+            layout: pair.first.layout,
             sheet: pair.first.sheet,
             report: pair.first.report.clone(),
+            user_data: Vec::new(),
             start: 0,
             accepted: 0,
             rejected: false,
         };
         side.start = side.values().sum();
+        side.user_data = side.user_data_now().to_vec();
         side
     }
 
     /// The trace stays sound after every event.
+    fn contents(&self) -> Contents {
+        read(&self.buffer, self.length, self.layout, &self.sheet).expect("a sound trace")
+    }
+
     fn values(&self) -> Values {
-        read(&self.buffer, self.length, &self.sheet).expect("a sound trace")
+        self.contents().values
+    }
+
+    fn user_data_now(&self) -> &[u8] {
+        &self.buffer[self.contents().user_data_place..self.length]
     }
 
     fn apply(&mut self, event: &Event) -> Answer {
@@ -55,8 +68,9 @@ impl Side {
     /// Applies the event and holds the part of the claim about one trace.
     fn follow(&mut self, step: &Step) -> Answer {
         let event = step.event();
+        assert_eq!(event.settings().layout, self.layout);
         let judged = match event {
-            Event::Discontinuity => true,
+            Event::Discontinuity(_) => true,
             Event::Activity(activity) => lent_group_is_sound(activity.group),
         };
         let values = self.values();
@@ -77,6 +91,7 @@ impl Side {
         }
         self.rejected |= limited;
         assert_eq!(self.values().sum(), self.start + self.accepted);
+        assert_eq!(self.user_data_now(), self.user_data);
         answer
     }
 
@@ -96,6 +111,8 @@ struct Met {
     over_at_start: usize,
     accepted: u64,
     refused_otherwise: usize,
+    /// Appended behind the PCF part of a trace with user data.
+    moved: usize,
 }
 
 fn replay(pair: &Pair, met: &mut Met) {
@@ -105,6 +122,8 @@ fn replay(pair: &Pair, met: &mut Met) {
     for (index, step) in pair.first.events.iter().enumerate() {
         let answer = first.follow(step);
         let other = second.follow(step);
+        let appended = answer.is_ok_and(|applied| applied.appended);
+        met.moved += usize::from(appended && !first.user_data.is_empty());
         if !first.rejected {
             assert_eq!(answer, other);
             assert_eq!(first.report, second.report);
@@ -121,19 +140,32 @@ fn replay(pair: &Pair, met: &mut Met) {
     met.accepted += first.accepted;
 }
 
-#[test]
-fn demand_3_on_many_pairs() {
+/// Replays pairs of one form, and sees that the claim was put to the test in
+/// all its parts.
+fn replay_many(layout: Layout) -> Met {
     let mut random = Random::new(3);
     let mut met = Met::default();
     for _ in 0..3_000 {
-        let pair = pair(&mut random).expect("a sound pair");
+        let pair = pair(&mut random, layout).expect("a sound pair");
+        assert_eq!(pair.first.layout, layout);
         replay(&pair, &mut met);
     }
-    // The claim was put to the test in all its parts.
     assert!(met.first_rejected > 500, "{}", met.first_rejected);
     assert!(met.second_rejected > 100, "{}", met.second_rejected);
     assert!(met.parted > 300, "{}", met.parted);
     assert!(met.over_at_start > 100, "{}", met.over_at_start);
     assert!(met.accepted > 2_000, "{}", met.accepted);
     assert!(met.refused_otherwise > 300, "{}", met.refused_otherwise);
+    met
+}
+
+#[test]
+fn demand_3_on_many_plain_pairs() {
+    assert_eq!(replay_many(Layout::PLAIN).moved, 0);
+}
+
+#[test]
+fn demand_3_on_many_embedded_pairs() {
+    let moved = replay_many(Layout::EMBEDDED).moved;
+    assert!(moved > 300, "{moved}");
 }

@@ -7,8 +7,8 @@ use decoder::*;
 fn listing_of_the_event() {
     let bytes = sample::event_004();
     assert_eq!(bytes.len(), 300);
-    assert_eq!(listing_of_input(&bytes), sample::EVENT_004_LISTING);
-    assert_eq!(check(&bytes, 300), Ok(10));
+    assert_eq!(listing_of_input(&bytes, PLAIN), sample::EVENT_004_LISTING);
+    assert_eq!(check(&bytes, 300, PLAIN), Ok(10));
 }
 
 #[test]
@@ -21,7 +21,7 @@ fn tally_of_the_event() {
     counts[6] = 1;
     counts[20] = 2;
     assert_eq!(
-        tally(&bytes, 300),
+        tally(&bytes, 300, PLAIN),
         Tally {
             counts,
             refusal: None
@@ -39,11 +39,11 @@ fn the_event_is_no_trace() {
 fn every_cut_of_the_event_gives_1_or_3() {
     let bytes = sample::event_004();
     for length in 0..300 {
-        let refused = check(&bytes, length).unwrap_err();
+        let refused = check(&bytes, length, PLAIN).unwrap_err();
         let expected = if length < 36 { 1 } else { 3 };
         assert_eq!(refused.number, expected, "{length}");
     }
     // The last structure due is missing altogether.
-    assert_eq!(check(&bytes, 276), Err(refusal(3, 276)));
-    assert_eq!(check(&bytes, 299), Err(refusal(3, 276)));
+    assert_eq!(check(&bytes, 276, PLAIN), Err(refusal(3, 276)));
+    assert_eq!(check(&bytes, 299, PLAIN), Err(refusal(3, 276)));
 }

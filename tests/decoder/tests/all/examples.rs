@@ -8,7 +8,7 @@ use decoder::*;
 #[test]
 fn listing_of_a_composed_message() {
     let bytes = composed(&plain_values());
-    assert_eq!(listing_of_input(&bytes), sample::COMPOSED_LISTING);
+    assert_eq!(listing_of_input(&bytes, PLAIN), sample::COMPOSED_LISTING);
 }
 
 #[test]
@@ -28,8 +28,8 @@ fn composed_message_byte_for_byte() {
 fn p_0_and_35_bytes_give_1() {
     assert_eq!(check_all(&[]), Err(refusal(1, 0)));
     assert_eq!(check_all(&[0; 35]), Err(refusal(1, 0)));
-    assert_eq!(listing_of_input(&[]), "refused 1 0\n");
-    assert_eq!(listing_of_input(&[0; 35]), "refused 1 0\n");
+    assert_eq!(listing_of_input(&[], PLAIN), "refused 1 0\n");
+    assert_eq!(listing_of_input(&[0; 35], PLAIN), "refused 1 0\n");
 }
 
 #[test]
@@ -37,7 +37,7 @@ fn p_sound_header_of_type_7_and_count_0() {
     let bytes = message(&[]);
     assert_eq!(bytes.len(), 36);
     assert_eq!(check_all(&bytes), Ok(0));
-    assert_eq!(listing_of_input(&bytes), "pcf 7 99 0 36\nend 0\n");
+    assert_eq!(listing_of_input(&bytes, PLAIN), "pcf 7 99 0 36\nend 0\n");
     assert_eq!(read_all(&bytes), Err(refusal(6, 0)));
 }
 
@@ -94,7 +94,7 @@ fn both(bytes: &[u8]) -> [Result<(), EventRefusal>; 2] {
     let group = empty_group();
     let (mut one, mut other) = (bytes.to_vec(), bytes.to_vec());
     [
-        discontinuity(&mut one, 180, &sheet()).map(|_| ()),
+        discontinuity(&mut one, 180, &sheet(), &QUIET).map(|_| ()),
         activity(&mut other, 180, &sheet(), &idle(&group), &mut []).map(|_| ()),
     ]
 }
@@ -125,7 +125,7 @@ fn forward(deliver: u32, forward: u32, supporting: bool) -> Result<(), Refusal> 
         forward,
         ..plain_values()
     };
-    forwarding(&composed(&values), 180, &sheet(), supporting)
+    forwarding(&composed(&values), 180, PLAIN, &sheet(), supporting)
 }
 
 #[test]

@@ -2,8 +2,26 @@
 
 use decoder::generate::{assemble, Piece};
 use decoder::{
-    sample, Activity, Applied, Counter, EventRefusal, Level, Refusal, Settings, Sheet, Values,
-    ACCUMULATE_IN_MESSAGE, ACCUMULATE_NONE, DELIVER_NO, DETAIL_HIGH, FORWARD_ALL,
+    sample, Activity, Applied, Contents, Counter, Embedding, EventRefusal, Layout, Level, Refusal,
+    Settings, Sheet, Values, ACCUMULATE_IN_MESSAGE, ACCUMULATE_NONE, DELIVER_NO, DETAIL_HIGH,
+    FORWARD_ALL,
+};
+
+pub const PLAIN: Layout = Layout::PLAIN;
+pub const EMBEDDED: Layout = Layout::EMBEDDED;
+
+/// Settings for a plain trace with all on.
+pub const BUSY: Settings = Settings {
+    activity_recording: true,
+    trace_route_messaging: true,
+    layout: PLAIN,
+};
+
+/// Settings for a plain trace with nothing on.
+pub const QUIET: Settings = Settings {
+    activity_recording: false,
+    trace_route_messaging: false,
+    layout: PLAIN,
 };
 
 /// The rules' made-up sheet.
@@ -34,11 +52,25 @@ pub fn accumulating() -> Values {
     }
 }
 
+/// Composes a plain message.
+pub fn compose_plain(sheet: &Sheet, values: &Values, buffer: &mut [u8]) -> Result<usize, Refusal> {
+    decoder::compose(PLAIN, sheet, values, &Embedding::NONE, &[], buffer)
+}
+
 /// A composed message under the made-up sheet.
 pub fn composed(values: &Values) -> Vec<u8> {
     let mut buffer = vec![0; 180];
-    assert_eq!(decoder::compose(&sheet(), values, &mut buffer), Ok(180));
+    assert_eq!(compose_plain(&sheet(), values, &mut buffer), Ok(180));
     buffer
+}
+
+/// What Read gives of a plain trace with these values in so many bytes.
+pub fn plain_contents(values: &Values, length: usize) -> Contents {
+    Contents {
+        values: *values,
+        embedding: Embedding::NONE,
+        user_data_place: length,
+    }
 }
 
 /// A composed message in a buffer with room behind it.
@@ -46,6 +78,23 @@ pub fn lent(values: &Values, room: usize) -> Vec<u8> {
     let mut buffer = composed(values);
     buffer.extend(vec![0xEE; room]);
     buffer
+}
+
+/// The sender's fields in the tests' embedded headers.
+pub const SENDER: Embedding = Embedding {
+    encoding: 273,
+    coded_char_set_id: 1208,
+    format: *b"MQSTR   ",
+    flags: 1,
+};
+
+/// An embedded message, its header written out field by field.
+pub fn embedded(part: &[u8], user_data: &[u8]) -> Vec<u8> {
+    let mut bytes = b"EPH \0\0\0\x01".to_vec();
+    bytes.extend((32 + part.len() as u32).to_be_bytes());
+    bytes.extend(*b"\0\0\x01\x11\0\0\x04\xB8MQSTR   \0\0\0\x01");
+    bytes.extend([part, user_data].concat());
+    bytes
 }
 
 /// Header fields of a sound message of Type 7.
@@ -82,6 +131,12 @@ pub fn get(bytes: &[u8], place: usize) -> u32 {
     u32::from_be_bytes(bytes[place..place + 4].try_into().unwrap())
 }
 
+/// Rows of numbers as they stand in a message.
+pub fn bytes_of(rows: &[&[u32]]) -> Vec<u8> {
+    let numbers = rows.iter().copied().flatten();
+    numbers.flat_map(|number| number.to_be_bytes()).collect()
+}
+
 pub fn refusal(number: u8, place: usize) -> Refusal {
     Refusal { number, place }
 }
@@ -104,11 +159,18 @@ pub fn limit_refusal(reply_owed: bool) -> EventRefusal {
 }
 
 pub fn check_all(bytes: &[u8]) -> Result<usize, Refusal> {
-    decoder::check(bytes, bytes.len())
+    decoder::check(bytes, bytes.len(), PLAIN)
+}
+
+/// The same of an embedded message.
+pub fn check_embedded(bytes: &[u8]) -> Result<usize, Refusal> {
+    decoder::check(bytes, bytes.len(), EMBEDDED)
 }
 
 pub fn read_all(bytes: &[u8]) -> Result<Values, Refusal> {
-    decoder::read(bytes, bytes.len(), &sheet())
+    let contents = decoder::read(bytes, bytes.len(), PLAIN, &sheet())?;
+    assert_eq!(contents, plain_contents(&contents.values, bytes.len()));
+    Ok(contents.values)
 }
 
 /// Groups nested to so many levels, the innermost with these members.
@@ -129,10 +191,7 @@ pub fn busy(group: &[u8]) -> Activity<'_> {
         level: Level::Low,
         group,
         reports_asked: true,
-        settings: Settings {
-            activity_recording: true,
-            trace_route_messaging: true,
-        },
+        settings: BUSY,
     }
 }
 
@@ -142,10 +201,7 @@ pub fn idle(group: &[u8]) -> Activity<'_> {
         level: Level::Low,
         group,
         reports_asked: false,
-        settings: Settings {
-            activity_recording: false,
-            trace_route_messaging: false,
-        },
+        settings: QUIET,
     }
 }
 

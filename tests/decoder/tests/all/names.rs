@@ -79,7 +79,7 @@ fn trace_with(data: &[u8], padding: u8, words: usize) -> Vec<u8> {
 }
 
 fn first_name(bytes: &[u8]) -> Named {
-    named_string(bytes, bytes.len(), &sheet(), 0, NAME)
+    named_string(bytes, bytes.len(), PLAIN, &sheet(), 0, NAME)
 }
 
 #[test]
@@ -104,13 +104,16 @@ fn substitutes_are_whole() {
     let mut other = bytes.clone();
     put(&mut other, 12, 76);
     let (length, sheet, unsound) = (bytes.len(), sheet(), Sheet::new([7; 8]));
+    let ask = |bytes: &[u8], length, sheet: &Sheet, n, id| {
+        named_string(bytes, length, PLAIN, sheet, n, id)
+    };
     let answers = [
-        ("no string", named_string(&bytes, length, &sheet, 0, 3002)),
-        ("an integer", named_string(&bytes, length, &sheet, 0, 1)),
-        ("no group", named_string(&bytes, length, &sheet, 1, NAME)),
-        ("length", named_string(&bytes, length - 1, &sheet, 0, NAME)),
-        ("header", named_string(&other, length, &sheet, 0, NAME)),
-        ("sheet", named_string(&bytes, length, &unsound, 0, NAME)),
+        ("no string", ask(&bytes, length, &sheet, 0, 3002)),
+        ("an integer", ask(&bytes, length, &sheet, 0, 1)),
+        ("no group", ask(&bytes, length, &sheet, 1, NAME)),
+        ("length", ask(&bytes, length - 1, &sheet, 0, NAME)),
+        ("header", ask(&other, length, &sheet, 0, NAME)),
+        ("sheet", ask(&bytes, length, &unsound, 0, NAME)),
     ];
     for (case, answer) in answers {
         assert_eq!(answer, Named::Substitute, "{case}");

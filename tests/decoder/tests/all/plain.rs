@@ -3,7 +3,7 @@
 //! decoder's walk is held.
 
 use crate::helpers::*;
-use decoder::generate::{any_message, damaged_trace, Random};
+use decoder::generate::{any_layout, any_message, damaged_trace, Random};
 use decoder::*;
 
 /// One row of the rules' table: the offsets of the counts, whose product
@@ -112,54 +112,85 @@ impl Plain<'_> {
     }
 }
 
-fn plain_rows(buffer: &[u8], length: usize) -> Result<Vec<Row>, Refusal> {
-    if length > buffer.len() || !(36..=65_536).contains(&length) {
+/// Where the PCF header stands.
+fn start(layout: Layout) -> usize {
+    match layout.form {
+        Form::Plain => 0,
+        Form::Embedded => 32,
+    }
+}
+
+/// Where the PCF part ends. An embedded header's faults are looked for in its
+/// three numbers.
+pub fn plain_end(buffer: &[u8], length: usize, layout: Layout) -> Result<usize, Refusal> {
+    let least = start(layout) + 36;
+    if length > buffer.len() || length > 65_536 || length < least {
         return Err(refusal(1, 0));
     }
-    let bytes = &buffer[..length];
-    let count = get(bytes, 32);
-    if get(bytes, 4) != 36 || !(1..=3).contains(&get(bytes, 8)) || count >= 1 << 31 {
+    if layout.form == Form::Plain {
+        return Ok(length);
+    }
+    let [identifier, version, end] = [0, 4, 8].map(|place| get(buffer, place));
+    let fault = identifier != 0x4550_4820
+        || version != 1
+        || end < 68
+        || end as usize > length
+        || end & 3 != 0;
+    if fault {
+        return Err(refusal(18, 0));
+    }
+    Ok(end as usize)
+}
+
+fn plain_rows(buffer: &[u8], length: usize, layout: Layout) -> Result<Vec<Row>, Refusal> {
+    let bytes = &buffer[..plain_end(buffer, length, layout)?];
+    let [size, version, count] = [4, 8, 32].map(|place| get(bytes, start(layout) + place));
+    if size != 36 || !(1..=3).contains(&version) || count >= 1 << 31 {
         return Err(refusal(2, 0));
     }
     let mut plain = Plain {
         bytes,
         rows: Vec::new(),
     };
-    let end = plain.members(36, u128::from(count), 1)?;
-    if end < length {
+    let end = plain.members(start(layout) + 36, u128::from(count), 1)?;
+    if end < bytes.len() {
         return Err(refusal(5, end));
     }
     Ok(plain.rows)
 }
 
 /// All entries over the structures say the same as the second reading.
-fn hold(buffer: &[u8], length: usize) {
-    let expected = plain_rows(buffer, length);
-    assert_eq!(rows(buffer, length), expected);
+fn hold(buffer: &[u8], length: usize, layout: Layout) {
+    let expected = plain_rows(buffer, length, layout);
+    assert_eq!(rows(buffer, length, layout), expected);
     assert_eq!(
-        check(buffer, length),
+        check(buffer, length, layout),
         expected.as_ref().map(Vec::len).map_err(|r| *r)
     );
-    let tally = tally(buffer, length);
+    let tally = tally(buffer, length, layout);
     assert_eq!(tally.refusal, expected.as_ref().err().copied());
     let mut counts = [0; KINDS];
     for row in expected.iter().flatten() {
         counts[row.kind as usize] += 1;
         assert_eq!(
-            step(buffer, length, row.place, row.depth),
+            step(buffer, length, layout, row.place, row.depth),
             Ok((*row, row.behind()))
         );
     }
     assert_eq!(tally.counts, counts);
-    assert_eq!(listing(buffer, length), text(buffer, length, &expected));
+    let header = buffer.get(start(layout)..).unwrap_or_default();
+    assert_eq!(
+        listing(buffer, length, layout),
+        text(header, length, &expected)
+    );
 }
 
-fn text(buffer: &[u8], length: usize, expected: &Result<Vec<Row>, Refusal>) -> String {
+fn text(header: &[u8], length: usize, expected: &Result<Vec<Row>, Refusal>) -> String {
     let rows = match expected {
         Ok(rows) => rows,
         Err(refusal) => return format!("refused {} {}\n", refusal.number, refusal.place),
     };
-    let [kind, command, count] = [0, 12, 32].map(|place| get(buffer, place));
+    let [kind, command, count] = [0, 12, 32].map(|place| get(header, place));
     let mut text = format!("pcf {kind} {command} {count} {length}\n");
     for row in rows {
         text += &format!(
@@ -173,54 +204,66 @@ fn text(buffer: &[u8], length: usize, expected: &Result<Vec<Row>, Refusal>) -> S
 #[test]
 fn generated_messages() {
     let mut random = Random::new(41);
-    for _ in 0..3_000 {
-        let lent = any_message(&mut random);
-        hold(&lent.buffer, lent.length);
+    for _ in 0..6_000 {
+        let layout = any_layout(&mut random);
+        let lent = any_message(&mut random, layout);
+        hold(&lent.buffer, lent.length, lent.layout);
     }
 }
 
 #[test]
 fn damaged_traces() {
     let mut random = Random::new(42);
-    for _ in 0..2_000 {
-        let lent = damaged_trace(&mut random).lent;
-        hold(&lent.buffer, lent.length);
+    for _ in 0..4_000 {
+        let layout = any_layout(&mut random);
+        let lent = damaged_trace(&mut random, layout).lent;
+        hold(&lent.buffer, lent.length, lent.layout);
     }
 }
 
+/// Types, lengths around the event's in both forms, and the ends of the ranges.
+const EDGES: [u32; 28] = [
+    0,
+    1,
+    2,
+    3,
+    5,
+    9,
+    13,
+    14,
+    15,
+    16,
+    20,
+    23,
+    24,
+    25,
+    68,
+    328,
+    332,
+    336,
+    340,
+    341,
+    344,
+    1 << 29,
+    1 << 30,
+    i32::MAX as u32,
+    1 << 31,
+    (1 << 31) + 4,
+    u32::MAX - 3,
+    u32::MAX,
+];
+
 #[test]
 fn every_word_of_the_event_at_every_edge() {
-    let bytes = sample::event_004();
-    let edges = [
-        0,
-        1,
-        2,
-        3,
-        5,
-        9,
-        13,
-        14,
-        15,
-        16,
-        20,
-        23,
-        24,
-        25,
-        1 << 29,
-        1 << 30,
-    ];
-    let high = [
-        i32::MAX as u32,
-        1 << 31,
-        (1 << 31) + 4,
-        u32::MAX - 3,
-        u32::MAX,
-    ];
-    for place in (0..300).step_by(4) {
-        for value in edges.into_iter().chain(high) {
-            let mut damaged = bytes.clone();
-            put(&mut damaged, place, value);
-            hold(&damaged, 300);
+    let event = sample::event_004();
+    let wrapped = embedded(&event, b"user data");
+    for (bytes, layout) in [(&event, PLAIN), (&wrapped, EMBEDDED)] {
+        for place in (0..start(layout) + 300).step_by(4) {
+            for value in EDGES {
+                let mut damaged = bytes.clone();
+                put(&mut damaged, place, value);
+                hold(&damaged, bytes.len(), layout);
+            }
         }
     }
 }

@@ -28,7 +28,7 @@ fn recorded_reported_and_appended() {
     let mut wanted = report_of(&group);
     wanted.extend([0xDD; 12]);
     assert_eq!(report, wanted);
-    assert_eq!(check(&report, 68), Ok(2));
+    assert_eq!(check(&report, 68, PLAIN), Ok(2));
 }
 
 #[test]
@@ -54,7 +54,7 @@ fn f1_9_before_10_and_for_every_activity() {
     assert_eq!(answer, Err(event_refusal(9)));
     // A discontinuity looks at neither group nor report buffer nor room.
     let mut buffer = composed(&accumulating());
-    let answer = discontinuity(&mut buffer, 180, &sheet());
+    let answer = discontinuity(&mut buffer, 180, &sheet(), &QUIET);
     assert_eq!(answer, Ok(counted(Counter::Discontinuity, 180)));
     let mut wanted = composed(&accumulating());
     put(&mut wanted, 100 + 12, 1);
@@ -115,7 +115,7 @@ fn f4_10_before_11() {
     };
     let mut buffer = composed(&values);
     assert_eq!(
-        discontinuity(&mut buffer, 180, &sheet()),
+        discontinuity(&mut buffer, 180, &sheet(), &QUIET),
         Err(limit_refusal(false))
     );
     let values = Values {
@@ -124,7 +124,7 @@ fn f4_10_before_11() {
     };
     let mut buffer = composed(&values);
     assert_eq!(
-        discontinuity(&mut buffer, 180, &sheet()),
+        discontinuity(&mut buffer, 180, &sheet(), &QUIET),
         Err(event_refusal(11))
     );
 }
@@ -212,6 +212,7 @@ fn f9_f10_reported_and_accumulated_are_apart() {
             settings: Settings {
                 activity_recording: recording,
                 trace_route_messaging: messaging,
+                layout: PLAIN,
             },
         };
         let (mut buffer, mut report) = (lent(&values, 16), [0; 52]);
@@ -241,7 +242,7 @@ fn f12_reply_owed() {
         };
         let mut buffer = composed(&values);
         assert_eq!(
-            discontinuity(&mut buffer, 180, &sheet()),
+            discontinuity(&mut buffer, 180, &sheet(), &QUIET),
             Err(limit_refusal(owed))
         );
     }
@@ -254,7 +255,7 @@ fn f13_unrecognised_options_play_no_part() {
         deliver: 0x8000_1000,
         ..plain_values()
     };
-    assert!(discontinuity(&mut composed(&values), 180, &sheet()).is_ok());
+    assert!(discontinuity(&mut composed(&values), 180, &sheet(), &QUIET).is_ok());
 }
 
 #[test]
@@ -264,7 +265,7 @@ fn counters_in_other_groups_stay() {
     let mut buffer = trace(&pieces);
     let before = buffer.clone();
     let length = buffer.len();
-    assert!(discontinuity(&mut buffer, length, &sheet()).is_ok());
+    assert!(discontinuity(&mut buffer, length, &sheet(), &QUIET).is_ok());
     let place = 36 + 144 + 16 + 3 * 16 + 12;
     let changed: Vec<usize> = (0..length).filter(|&at| buffer[at] != before[at]).collect();
     assert_eq!(changed, [place + 3]);

@@ -9,9 +9,11 @@ use decoder::*;
 fn a1_bytes_behind_the_length_never_sway() {
     let mut buffer = composed(&plain_values());
     buffer.extend([0xFF; 100]);
-    assert_eq!(check(&buffer, 180), Ok(9));
-    assert_eq!(read(&buffer, 180, &sheet()), Ok(plain_values()));
-    assert!(list(&buffer, 180).unwrap().starts_with("pcf 10 75 1 180\n"));
+    assert_eq!(check(&buffer, 180, PLAIN), Ok(9));
+    let contents = plain_contents(&plain_values(), 180);
+    assert_eq!(read(&buffer, 180, PLAIN, &sheet()), Ok(contents));
+    let text = list(&buffer, 180, PLAIN).unwrap();
+    assert!(text.starts_with("pcf 10 75 1 180\n"));
 }
 
 #[test]
@@ -22,9 +24,9 @@ fn a3_ends_of_the_length() {
     assert_eq!(check_all(&bytes), Ok(1));
     bytes.push(0);
     assert_eq!(check_all(&bytes), Err(refusal(1, 0)));
-    assert_eq!(check(&bytes, 65_536), Ok(1));
-    assert_eq!(check(&message(&[]), 36), Ok(0));
-    assert_eq!(check(&message(&[]), 35), Err(refusal(1, 0)));
+    assert_eq!(check(&bytes, 65_536, PLAIN), Ok(1));
+    assert_eq!(check(&message(&[]), 36, PLAIN), Ok(0));
+    assert_eq!(check(&message(&[]), 35, PLAIN), Err(refusal(1, 0)));
 }
 
 #[test]
@@ -49,7 +51,7 @@ fn a4_sums_and_products_in_whole_numbers() {
         ..plain_values()
     };
     let mut bytes = composed(&values);
-    let answer = discontinuity(&mut bytes, 180, &sheet());
+    let answer = discontinuity(&mut bytes, 180, &sheet(), &QUIET);
     assert_eq!(answer, Err(limit_refusal(false)));
 }
 
@@ -85,7 +87,7 @@ fn b2_refusal_2_before_structures_and_counts() {
 fn b3_structure_due_at_the_end() {
     let mut bytes = message(&[]);
     put(&mut bytes, 32, 1);
-    assert_eq!(listing_of_input(&bytes), "refused 3 36\n");
+    assert_eq!(listing_of_input(&bytes, PLAIN), "refused 3 36\n");
     let mut bytes = message(&[Piece::integer(1, 1)]);
     put(&mut bytes, 32, 2);
     assert_eq!(check_all(&bytes), Err(refusal(3, 52)));
@@ -101,7 +103,7 @@ fn b4_refusal_3_before_4_at_one_structure() {
         put(&mut bytes, place + offset, value);
         assert_eq!(check_all(&bytes), Err(refusal(3, place)));
     }
-    assert_eq!(check(&good, place + 15), Err(refusal(3, place)));
+    assert_eq!(check(&good, place + 15, PLAIN), Err(refusal(3, place)));
     // Members that aren't there don't matter: the group itself is too deep.
     let mut bytes = good.clone();
     put(&mut bytes, place + 12, i32::MAX as u32);
@@ -113,7 +115,7 @@ fn b5_only_groups_are_too_deep() {
     let inside = [Piece::integer(5, 5), Piece::string(6, b"six")];
     let bytes = message(&[nested(8, &inside)]);
     assert_eq!(check_all(&bytes), Ok(10));
-    let text = listing_of_input(&bytes);
+    let text = listing_of_input(&bytes, PLAIN);
     assert!(text.contains("\n8 148 20 1 16\n9 164 3 5 16\n9 180 4 6 24\nend 10\n"));
     let bytes = message(&[nested(8, &[Piece::integer(5, 5), Piece::group(1, &[])])]);
     assert_eq!(check_all(&bytes), Err(refusal(4, 180)));
@@ -218,9 +220,9 @@ fn b13_left_over_place_and_b14_first_fault() {
 
 #[test]
 fn b16_tally_of_nothing_and_of_a_refusal() {
-    let empty = tally(&message(&[]), 36);
+    let empty = tally(&message(&[]), 36, PLAIN);
     assert_eq!((empty.counts, empty.refusal), ([0; KINDS], None));
-    let refused = tally(&message(&[]), 37);
+    let refused = tally(&message(&[]), 37, PLAIN);
     assert_eq!(
         (refused.counts, refused.refusal),
         ([0; KINDS], Some(refusal(1, 0)))
@@ -230,8 +232,8 @@ fn b16_tally_of_nothing_and_of_a_refusal() {
 #[test]
 fn c1_refusal_after_sound_structures_prints_one_line() {
     let bytes = message(&[Piece::integer(1, 1), Piece::new(99, 1, &[0], &[], &[])]);
-    assert_eq!(listing_of_input(&bytes), "refused 3 52\n");
-    assert_eq!(listing_of_input(&vec![0; 70_000]), "refused 1 0\n");
+    assert_eq!(listing_of_input(&bytes, PLAIN), "refused 3 52\n");
+    assert_eq!(listing_of_input(&vec![0; 70_000], PLAIN), "refused 1 0\n");
 }
 
 #[test]
@@ -240,7 +242,7 @@ fn c1_largest_numbers_in_the_listing() {
     put(&mut bytes, 0, u32::MAX);
     put(&mut bytes, 12, u32::MAX);
     let expected = "pcf 4294967295 4294967295 1 52\n1 36 3 4294967295 16\nend 1\n";
-    assert_eq!(listing_of_input(&bytes), expected);
+    assert_eq!(listing_of_input(&bytes, PLAIN), expected);
 }
 
 #[test]
@@ -256,10 +258,10 @@ fn d1_step_never_gives_2_or_5() {
         struc_length: 16,
         count: None,
     };
-    assert_eq!(step(&bytes, 55, 36, 1), Ok((row, 52)));
-    assert_eq!(step(&bytes, 35, 36, 1), Err(refusal(1, 0)));
-    assert_eq!(step(&bytes, 56, 36, 1), Err(refusal(1, 0)));
-    assert_eq!(step(&bytes, 55, 52, 1), Err(refusal(3, 52)));
+    assert_eq!(step(&bytes, 55, PLAIN, 36, 1), Ok((row, 52)));
+    assert_eq!(step(&bytes, 35, PLAIN, 36, 1), Err(refusal(1, 0)));
+    assert_eq!(step(&bytes, 56, PLAIN, 36, 1), Err(refusal(1, 0)));
+    assert_eq!(step(&bytes, 55, PLAIN, 52, 1), Err(refusal(3, 52)));
 }
 
 #[test]
@@ -267,13 +269,13 @@ fn d2_any_place_is_read_as_a_structure() {
     // A header that reads as a string with one byte of data.
     let mut bytes = message(&[]);
     put(&mut bytes, 0, 4);
-    let (row, behind) = step(&bytes, 36, 0, 1).unwrap();
+    let (row, behind) = step(&bytes, 36, PLAIN, 0, 1).unwrap();
     assert_eq!((row.kind, row.struc_length, behind), (4, 36, 36));
     // A structure at a place that is no multiple of 4.
     let mut bytes = message(&[]);
     bytes.push(0);
     bytes.extend(Piece::integer(7, 1).bytes);
-    let (row, behind) = step(&bytes, 53, 37, 1).unwrap();
+    let (row, behind) = step(&bytes, 53, PLAIN, 37, 1).unwrap();
     assert_eq!((row.place, behind), (37, 53));
 }
 
@@ -281,35 +283,35 @@ fn d2_any_place_is_read_as_a_structure() {
 fn d3_places_at_and_behind_the_end() {
     let bytes = composed(&plain_values());
     for place in [180, 181, 70_000, usize::MAX - 11, usize::MAX] {
-        assert_eq!(step(&bytes, 180, place, 1), Err(refusal(3, place)));
+        assert_eq!(step(&bytes, 180, PLAIN, place, 1), Err(refusal(3, place)));
     }
     // Inside the buffer, yet behind the message.
-    assert_eq!(step(&bytes, 164, 164, 1), Err(refusal(3, 164)));
-    assert_eq!(step(&bytes, 165, 164, 1), Err(refusal(3, 164)));
+    assert_eq!(step(&bytes, 164, PLAIN, 164, 1), Err(refusal(3, 164)));
+    assert_eq!(step(&bytes, 165, PLAIN, 164, 1), Err(refusal(3, 164)));
 }
 
 #[test]
 fn d4_any_depth() {
     let bytes = composed(&plain_values());
     for depth in [0, 1, 9, u32::MAX] {
-        assert_eq!(step(&bytes, 180, 52, depth).unwrap().0.depth, depth);
+        assert_eq!(step(&bytes, 180, PLAIN, 52, depth).unwrap().0.depth, depth);
     }
     for depth in [0, 1, 8] {
-        assert_eq!(step(&bytes, 180, 36, depth).unwrap().0.depth, depth);
+        assert_eq!(step(&bytes, 180, PLAIN, 36, depth).unwrap().0.depth, depth);
     }
     for depth in [9, u32::MAX] {
-        assert_eq!(step(&bytes, 180, 36, depth), Err(refusal(4, 36)));
+        assert_eq!(step(&bytes, 180, PLAIN, 36, depth), Err(refusal(4, 36)));
     }
     // 3 before 4.
-    assert_eq!(step(&bytes, 51, 36, 9), Err(refusal(3, 36)));
+    assert_eq!(step(&bytes, 51, PLAIN, 36, 9), Err(refusal(3, 36)));
 }
 
 #[test]
 fn d5_d6_behind_a_group_is_its_first_member() {
     let mut bytes = composed(&plain_values());
     put(&mut bytes, 48, i32::MAX as u32);
-    let (row, behind) = step(&bytes, 180, 36, 1).unwrap();
+    let (row, behind) = step(&bytes, 180, PLAIN, 36, 1).unwrap();
     assert_eq!((row.count, behind), (Some(i32::MAX as u32), 52));
     put(&mut bytes, 48, 1 << 31);
-    assert_eq!(step(&bytes, 180, 36, 1), Err(refusal(3, 36)));
+    assert_eq!(step(&bytes, 180, PLAIN, 36, 1), Err(refusal(3, 36)));
 }

@@ -9,9 +9,10 @@ use decoder::*;
 fn e2_sheet_numbers_may_equal_other_parameters() {
     let sheet = Sheet::new([8003, 8005, 3, 20, 1, 2, 4, 5]);
     let mut buffer = vec![0; 180];
-    assert_eq!(compose(&sheet, &plain_values(), &mut buffer), Ok(180));
-    assert_eq!(read(&buffer, 180, &sheet), Ok(plain_values()));
-    assert_eq!(activity_group(&buffer, 180, &sheet, 0), None);
+    assert_eq!(compose_plain(&sheet, &plain_values(), &mut buffer), Ok(180));
+    let contents = plain_contents(&plain_values(), 180);
+    assert_eq!(read(&buffer, 180, PLAIN, &sheet), Ok(contents));
+    assert_eq!(activity_group(&buffer, 180, PLAIN, &sheet, 0), None);
 }
 
 #[test]
@@ -24,8 +25,8 @@ fn e3_only_top_level_groups_are_trace_route_groups() {
         Piece::group(1, &[trace_route(), Piece::group(8005, &[])]),
     ];
     let bytes = trace(&beside);
-    let found = locate(&bytes, bytes.len(), &sheet()).unwrap();
-    assert_eq!(found.values, plain_values());
+    let found = locate(&bytes, bytes.len(), PLAIN, &sheet()).unwrap();
+    assert_eq!(found.contents.values, plain_values());
     let start = beside[..3]
         .iter()
         .map(|piece| piece.bytes.len())
@@ -49,7 +50,7 @@ fn e4_direct_members_only() {
     members.extend(more);
     let bytes = trace(&[Piece::group(8003, &members)]);
     assert_eq!(read_all(&bytes), Ok(plain_values()));
-    let found = locate(&bytes, bytes.len(), &sheet()).unwrap();
+    let found = locate(&bytes, bytes.len(), PLAIN, &sheet()).unwrap();
     assert_eq!((found.places[7], found.places[0]), (52, 164));
 }
 
@@ -130,7 +131,8 @@ fn decide(deliver: u32, forward: u32, supporting: bool) -> Result<(), u8> {
         forward,
         ..plain_values()
     };
-    forwarding(&composed(&values), 180, &sheet(), supporting).map_err(|refusal| refusal.number)
+    forwarding(&composed(&values), 180, PLAIN, &sheet(), supporting)
+        .map_err(|refusal| refusal.number)
 }
 
 #[test]
@@ -166,7 +168,10 @@ fn h5_arrival_looks_at_deliver_only() {
         deliver: 0x1000,
         ..plain_values()
     };
-    assert_eq!(arrival(&composed(&values), 180, &sheet()), Ok(Arrival::Put));
+    assert_eq!(
+        arrival(&composed(&values), 180, PLAIN, &sheet()),
+        Ok(Arrival::Put)
+    );
 }
 
 /// A trace with two Activity groups, one before the TraceRoute group.
@@ -198,7 +203,7 @@ fn named_trace() -> (Vec<u8>, [usize; 3]) {
 fn i6_nth_activity_group_is_whole() {
     let (bytes, [first, second, end]) = named_trace();
     let length = bytes.len();
-    let group = |n| activity_group(&bytes, length, &sheet(), n);
+    let group = |n| activity_group(&bytes, length, PLAIN, &sheet(), n);
     let trace_route = 16 * 9;
     assert_eq!(
         group(0),
@@ -216,8 +221,11 @@ fn i6_nth_activity_group_is_whole() {
     );
     assert_eq!(group(2), None);
     assert_eq!(group(usize::MAX), None);
-    assert_eq!(activity_group(&bytes, length - 1, &sheet(), 0), None);
-    assert_eq!(activity_group(&bytes, length, &Sheet::new([1; 8]), 0), None);
+    assert_eq!(activity_group(&bytes, length - 1, PLAIN, &sheet(), 0), None);
+    assert_eq!(
+        activity_group(&bytes, length, PLAIN, &Sheet::new([1; 8]), 0),
+        None
+    );
     assert!(lent_group_is_sound(group(0).unwrap().of(&bytes)));
 }
 
@@ -228,13 +236,16 @@ fn i6_group_at_the_messages_end() {
         place: 180,
         length: 32,
     };
-    assert_eq!(activity_group(&bytes, 212, &sheet(), 0), Some(expected));
+    assert_eq!(
+        activity_group(&bytes, 212, PLAIN, &sheet(), 0),
+        Some(expected)
+    );
 }
 
 #[test]
 fn i7_i8_i9_named_strings() {
     let (bytes, [first, ..]) = named_trace();
-    let name = |n, id| named_string(&bytes, bytes.len(), &sheet(), n, id);
+    let name = |n, id| named_string(&bytes, bytes.len(), PLAIN, &sheet(), n, id);
     let text = |n, id| name(n, id).of(&bytes, b"none \0 ").to_vec();
     assert_eq!(text(0, 3001), b"QM1");
     let place = first + 16 + 16 + 28 + 16 + 20 + 20;
@@ -252,8 +263,8 @@ fn i7_i8_i9_named_strings() {
         assert_eq!(name(n, id), Named::Substitute);
         assert_eq!(text(n, id), b"none \0 ");
     }
-    let refused = named_string(&bytes, bytes.len() - 1, &sheet(), 0, 3001);
+    let refused = named_string(&bytes, bytes.len() - 1, PLAIN, &sheet(), 0, 3001);
     assert_eq!(refused, Named::Substitute);
-    let refused = named_string(&bytes, bytes.len(), &Sheet::new([0; 8]), 0, 3001);
+    let refused = named_string(&bytes, bytes.len(), PLAIN, &Sheet::new([0; 8]), 0, 3001);
     assert_eq!(refused, Named::Substitute);
 }

@@ -8,10 +8,10 @@ use decoder::*;
 fn refusal_1_length() {
     let bytes = composed(&plain_values());
     for length in [0, 35, 181, 65_537, usize::MAX] {
-        assert_eq!(check(&bytes, length), Err(refusal(1, 0)));
-        assert_eq!(read(&bytes, length, &sheet()), Err(refusal(1, 0)));
+        assert_eq!(check(&bytes, length, PLAIN), Err(refusal(1, 0)));
+        assert_eq!(read(&bytes, length, PLAIN, &sheet()), Err(refusal(1, 0)));
     }
-    assert_eq!(check(&vec![0; 70_000], 65_537), Err(refusal(1, 0)));
+    assert_eq!(check(&vec![0; 70_000], 65_537, PLAIN), Err(refusal(1, 0)));
 }
 
 #[test]
@@ -57,7 +57,7 @@ fn refusal_3_structure() {
     );
     // Past the end.
     let bytes = message(&[first.clone(), first]);
-    assert_eq!(check(&bytes, 64), Err(refusal(3, 52)));
+    assert_eq!(check(&bytes, 64, PLAIN), Err(refusal(3, 52)));
 }
 
 #[test]
@@ -72,9 +72,9 @@ fn refusal_5_left_over() {
     let mut bytes = composed(&plain_values());
     bytes.push(0);
     assert_eq!(check_all(&bytes), Err(refusal(5, 180)));
-    assert_eq!(listing_of_input(&bytes), "refused 5 180\n");
-    assert_eq!(tally(&bytes, 181).refusal, Some(refusal(5, 180)));
-    assert_eq!(tally(&bytes, 181).counts, [0; KINDS]);
+    assert_eq!(listing_of_input(&bytes, PLAIN), "refused 5 180\n");
+    assert_eq!(tally(&bytes, 181, PLAIN).refusal, Some(refusal(5, 180)));
+    assert_eq!(tally(&bytes, 181, PLAIN).counts, [0; KINDS]);
 }
 
 #[test]
@@ -142,7 +142,10 @@ fn refusal_8_ranges() {
             let bytes = trace(&[Piece::group(8003, &attributes(&all))]);
             assert_eq!(read_all(&bytes), Err(refusal(8, 0)), "{attribute} {value}");
             let mut buffer = [7; 200];
-            assert_eq!(compose(&sheet(), &all, &mut buffer), Err(refusal(8, 0)));
+            assert_eq!(
+                compose_plain(&sheet(), &all, &mut buffer),
+                Err(refusal(8, 0))
+            );
             assert_eq!(buffer, [7; 200]);
         }
     }
@@ -191,18 +194,18 @@ fn refusals_14_to_16_of_decisions() {
             ..plain_values()
         })
     };
-    let go = |bytes: &[u8], supporting| forwarding(bytes, 180, &sheet(), supporting);
+    let go = |bytes: &[u8], supporting| forwarding(bytes, 180, PLAIN, &sheet(), supporting);
     assert_eq!(go(&with(0x12000, 0x100), false), Err(refusal(14, 0)));
     assert_eq!(go(&with(0x2000, 0x8000_0100), false), Err(refusal(15, 0)));
     assert_eq!(go(&with(0x2000, 0x200), false), Err(refusal(16, 0)));
     let bytes = with(0x8000_2000, 0x100);
-    assert_eq!(arrival(&bytes, 180, &sheet()), Err(refusal(14, 0)));
+    assert_eq!(arrival(&bytes, 180, PLAIN, &sheet()), Err(refusal(14, 0)));
     assert_eq!(
-        arrival(&with(0x1000, 0x100), 180, &sheet()),
+        arrival(&with(0x1000, 0x100), 180, PLAIN, &sheet()),
         Ok(Arrival::Put)
     );
     assert_eq!(
-        arrival(&with(0x2000, 0x100), 180, &sheet()),
+        arrival(&with(0x2000, 0x100), 180, PLAIN, &sheet()),
         Ok(Arrival::Withhold)
     );
 }
@@ -218,13 +221,22 @@ fn refusal_17_sheet() {
             numbers[index] = number;
             let bad = Sheet::new(numbers);
             assert!(!bad.is_sound(), "{index} {number}");
-            assert_eq!(read(&[], 0, &bad), Err(refusal(17, 0)));
+            assert_eq!(read(&[], 0, PLAIN, &bad), Err(refusal(17, 0)));
             let mut small = [3; 4];
             let values = Values::from_array([0; 8]);
-            assert_eq!(compose(&bad, &values, &mut small), Err(refusal(17, 0)));
-            assert_eq!(discontinuity(&mut small, 9, &bad), Err(event_refusal(17)));
-            assert_eq!(forwarding(&small, 9, &bad, true), Err(refusal(17, 0)));
-            assert_eq!(arrival(&small, 9, &bad), Err(refusal(17, 0)));
+            assert_eq!(
+                compose_plain(&bad, &values, &mut small),
+                Err(refusal(17, 0))
+            );
+            assert_eq!(
+                discontinuity(&mut small, 9, &bad, &QUIET),
+                Err(event_refusal(17))
+            );
+            assert_eq!(
+                forwarding(&small, 9, PLAIN, &bad, true),
+                Err(refusal(17, 0))
+            );
+            assert_eq!(arrival(&small, 9, PLAIN, &bad), Err(refusal(17, 0)));
         }
     }
 }
@@ -232,10 +244,10 @@ fn refusal_17_sheet() {
 #[test]
 fn compose_needs_180_bytes() {
     let mut short = [7; 179];
-    let refused = compose(&sheet(), &plain_values(), &mut short);
+    let refused = compose_plain(&sheet(), &plain_values(), &mut short);
     assert_eq!(refused, Err(refusal(12, 0)));
     assert_eq!(short, [7; 179]);
     let mut long = [7; 190];
-    assert_eq!(compose(&sheet(), &plain_values(), &mut long), Ok(180));
+    assert_eq!(compose_plain(&sheet(), &plain_values(), &mut long), Ok(180));
     assert_eq!(long[180..], [7; 10]);
 }

@@ -20,15 +20,17 @@ pub fn give(
     event: &Event,
     spare: Spare,
 ) -> (Answer, Done) {
-    let mut done = fill::DONE;
     let sheet = &sheet.identifiers;
-    let answer = match event {
-        Event::Discontinuity => ffi::discontinuity(to.message, length, sheet, &mut done),
+    let (answer, done) = fill::between(fill::DONE, |done| match event {
+        Event::Discontinuity(settings) => {
+            let options = spare.reading(settings.layout);
+            ffi::discontinuity(to.message, length, sheet, options, done)
+        }
         Event::Activity(activity) => {
             let event = arguments(activity, spare);
-            ffi::activity(to.message, length, sheet, &event, to.report, &mut done)
+            ffi::activity(to.message, length, sheet, &event, to.report, done)
         }
-    };
+    });
     if !answer.is_refused() {
         // The answer and what was done both say it.
         assert_eq!(answer.value(), done.message_length);
@@ -44,6 +46,14 @@ fn arguments<'a>(activity: &decoder::Activity<'a>, spare: Spare) -> Activity<'a>
     }
 }
 
+/// The function that an event is given to.
+pub fn name(event: &Event) -> &'static str {
+    match event {
+        Event::Discontinuity(_) => "discontinuity",
+        Event::Activity(_) => "activity",
+    }
+}
+
 /// One event on both sides, which have equal bytes before it.
 pub fn compare_event(
     ours: &mut Buffers,
@@ -56,10 +66,7 @@ pub fn compare_event(
     let before = (ours.message.to_vec(), ours.report.to_vec());
     let result = decoder::apply(theirs.message, length, sheet, event, theirs.report);
     let (answer, done) = give(ours, length, sheet, event, spare);
-    let name = match event {
-        Event::Discontinuity => "discontinuity",
-        Event::Activity(_) => "activity",
-    };
+    let name = name(event);
     assert_eq!(answer, expect::event(&result), "{name}");
     assert_eq!(done, expect::done(&result), "{name}: what was done");
     same("the message's buffer", ours.message, theirs.message);

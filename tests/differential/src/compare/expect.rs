@@ -1,8 +1,8 @@
 //! The decoder's answers in the library's form.
 
 use super::fill;
-use crate::ffi::{Answer, Done, Part, Row};
-use decoder::{Applied, Arrival, Counter, EventRefusal, Refusal};
+use crate::ffi::{Answer, Contents, Done, Fields, Part, Row};
+use decoder::{Applied, Arrival, Counter, Embedding, EventRefusal, Refusal};
 
 /// What is given, or number and place.
 pub fn answer(result: Result<u64, Refusal>) -> Answer {
@@ -12,12 +12,14 @@ pub fn answer(result: Result<u64, Refusal>) -> Answer {
     }
 }
 
-/// One structure's answer is a number only: the place is the one asked for.
+/// One structure's answer is a number only: the place is the one asked for, or
+/// 0 where the message as a whole is refused.
 pub fn step_answer<T>(result: &Result<T, Refusal>, place: usize) -> Answer {
     match result {
         Ok(_) => Answer::given(0),
         Err(refusal) => {
-            let due = if refusal.number == 1 { 0 } else { place };
+            let whole = matches!(refusal.number, 1 | 18);
+            let due = if whole { 0 } else { place };
             assert_eq!(refusal.place, due);
             Answer::refused(refusal.number, 0)
         }
@@ -35,6 +37,24 @@ pub fn row((row, behind): (decoder::Row, usize)) -> Row {
         members: u64::from(row.count.unwrap_or(0)),
         next: behind as u64,
     }
+}
+
+/// What read writes.
+pub fn contents(contents: &decoder::Contents) -> Contents {
+    Contents {
+        values: contents.values.to_array(),
+        fields: fields(&contents.embedding),
+        format: contents.embedding.format,
+    }
+}
+
+/// The fields in the order of `enum gw_field`.
+pub fn fields(embedding: &Embedding) -> Fields {
+    [
+        embedding.encoding,
+        embedding.coded_char_set_id,
+        embedding.flags,
+    ]
 }
 
 /// `GW_DECIDED_FORWARD`, or a refusal.

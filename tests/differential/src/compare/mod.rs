@@ -5,9 +5,11 @@
 //! Each comparison gives what was answered, so that callers can count it.
 
 pub mod bytes;
+pub mod compose;
 pub mod events;
 pub mod expect;
 pub mod fill;
+pub mod given;
 pub mod numbers;
 pub mod parts;
 pub mod structures;

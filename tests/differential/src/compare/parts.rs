@@ -1,5 +1,6 @@
 //! The n-th Activity group, and named strings.
 
+use super::given::Given;
 use super::{expect, fill};
 use crate::ffi;
 use decoder::{Named, Part, Sheet};
@@ -25,26 +26,30 @@ impl FoundName {
     }
 }
 
-/// Gives whether there is such a group.
-pub fn compare_group(buffer: &[u8], length: usize, sheet: &Sheet, n: usize) -> bool {
-    let found = decoder::activity_group(buffer, length, sheet, n);
-    let mut part = fill::PART;
-    ffi::activity_group(buffer, length, &sheet.identifiers, n, &mut part);
+/// Gives the group, if there is such a one.
+pub fn compare_group(given: Given, sheet: &Sheet, n: usize) -> Option<Part> {
+    let (buffer, length, options) = (given.buffer, given.length, given.options());
+    let found = decoder::activity_group(buffer, length, given.layout, sheet, n);
+    let ((), part) = fill::between(fill::PART, |part| {
+        ffi::activity_group(buffer, length, &sheet.identifiers, options, n, part)
+    });
     assert_eq!(part, expect::group(found), "Activity group {n}");
-    found.is_some()
+    found
 }
 
 /// Gives what was found, if there is such a string. Where there is none the
 /// part stays as it was.
 pub fn compare_name(
-    buffer: &[u8],
-    length: usize,
+    given: Given,
     sheet: &Sheet,
     (n, identifier): (usize, u32),
 ) -> Option<FoundName> {
-    let named = decoder::named_string(buffer, length, sheet, n, identifier);
-    let mut part = fill::PART;
-    let found = ffi::named_string(buffer, length, &sheet.identifiers, n, identifier, &mut part);
+    let (buffer, length, options) = (given.buffer, given.length, given.options());
+    let named = decoder::named_string(buffer, length, given.layout, sheet, n, identifier);
+    let sheet = &sheet.identifiers;
+    let (found, part) = fill::between(fill::PART, |part| {
+        ffi::named_string(buffer, length, sheet, options, n, identifier, part)
+    });
     let (wanted, name) = match named {
         Named::InMessage(part) => (expect::part(part), Some(FoundName::new(buffer, part))),
         Named::Substitute => (fill::PART, None),

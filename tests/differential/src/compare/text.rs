@@ -1,6 +1,7 @@
 //! The lent text buffer of the listing.
 
 use super::bytes::same;
+use super::given::Given;
 use crate::ffi::{self, Answer, LISTING_BYTES};
 use decoder::generate::Random;
 
@@ -29,8 +30,9 @@ impl Text {
 
     /// Lists the message and demands of the whole buffer that it has the
     /// wanted text (none of a refusal) and behind it what was there before.
-    pub fn list(&mut self, buffer: &[u8], length: usize, wanted: &[u8]) -> Answer {
-        let answer = ffi::list(buffer, length, &mut self.lent);
+    pub fn list(&mut self, given: Given, wanted: &[u8]) -> Answer {
+        let options = given.options();
+        let answer = ffi::list(given.buffer, given.length, options, &mut self.lent);
         let (text, behind) = self.lent.split_at(wanted.len());
         same("text", text, wanted);
         same("text buffer", behind, &self.filled[wanted.len()..]);

@@ -6,6 +6,7 @@
 //! for their whole size, and what is lent with `&mut` overlaps nothing else.
 
 mod answer;
+mod embedded;
 mod lend;
 mod raw;
 mod refusals;
@@ -13,6 +14,7 @@ mod structures;
 mod traces;
 
 pub use answer::Answer;
+pub use embedded::{Around, Fields, Format, EMBEDDED};
 pub use raw::Row;
 pub use refusals::{feedback, version, words, WORDS_BYTES};
 pub use structures::{check, list, step, tally, KINDS, LISTING_BYTES};
@@ -20,6 +22,6 @@ pub use {
     raw::{Done, Part},
     traces::{
         activity, activity_group, arrive, compose, discontinuity, forward, named_string, read,
-        Activity, Eight,
+        Activity, Contents, Eight,
     },
 };

@@ -21,16 +21,29 @@ extern "C" {
 
     pub(super) fn gw_feedback(refusal: u32) -> u32;
 
-    pub(super) fn gw_check(buffer: *const u8, size: usize, length: usize) -> u64;
+    pub(super) fn gw_check(buffer: *const u8, size: usize, length: usize, options: u32) -> u64;
 
-    pub(super) fn gw_tally(buffer: *const u8, size: usize, length: usize, counts: *mut u32) -> u64;
+    pub(super) fn gw_tally(
+        buffer: *const u8,
+        size: usize,
+        length: usize,
+        options: u32,
+        counts: *mut u32,
+    ) -> u64;
 
-    pub(super) fn gw_list(buffer: *const u8, size: usize, length: usize, text: *mut u8) -> u64;
+    pub(super) fn gw_list(
+        buffer: *const u8,
+        size: usize,
+        length: usize,
+        options: u32,
+        text: *mut u8,
+    ) -> u64;
 
     pub(super) fn gw_step(
         buffer: *const u8,
         size: usize,
         length: usize,
+        options: u32,
         place: usize,
         depth: u32,
         row: *mut Row,

@@ -22,6 +22,11 @@ extern "C" {
     pub(in super::super) fn gw_compose(
         sheet: *const u32,
         values: *const u32,
+        options: u32,
+        fields: *const u32,
+        format: *const u8,
+        user: *const u8,
+        user_size: usize,
         buffer: *mut u8,
         size: usize,
     ) -> u64;
@@ -31,7 +36,10 @@ extern "C" {
         size: usize,
         length: usize,
         sheet: *const u32,
+        options: u32,
         values: *mut u32,
+        fields: *mut u32,
+        format: *mut u8,
     ) -> u64;
 
     pub(in super::super) fn gw_forward(
@@ -47,6 +55,7 @@ extern "C" {
         size: usize,
         length: usize,
         sheet: *const u32,
+        options: u32,
     ) -> u64;
 
     pub(in super::super) fn gw_activity_group(
@@ -54,6 +63,7 @@ extern "C" {
         size: usize,
         length: usize,
         sheet: *const u32,
+        options: u32,
         n: usize,
         part: *mut Part,
     );
@@ -65,6 +75,7 @@ extern "C" {
         size: usize,
         length: usize,
         sheet: *const u32,
+        options: u32,
         n: usize,
         identifier: u32,
         part: *mut Part,
@@ -75,6 +86,7 @@ extern "C" {
         size: usize,
         length: usize,
         sheet: *const u32,
+        options: u32,
         done: *mut Done,
     ) -> u64;
 

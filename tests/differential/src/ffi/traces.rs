@@ -1,11 +1,22 @@
 //! Compose, read, decisions, parts and events.
 
 use super::answer::Answer;
+use super::embedded::{Around, Fields, Format};
 use super::lend::{start, start_mut};
 use super::raw::{self, Done, Part};
 
 /// A sheet, or the eight values.
 pub type Eight = [u32; 8];
+
+/// What read writes. For C these are three arrays; they lie here one behind the
+/// other without a gap, so that a number too many meets the next one.
+#[repr(C)]
+#[derive(Clone, Copy, Debug, PartialEq, Eq)]
+pub struct Contents {
+    pub values: Eight,
+    pub fields: Fields,
+    pub format: Format,
+}
 
 /// An activity's arguments.
 #[derive(Clone, Copy, Debug)]
@@ -15,20 +26,57 @@ pub struct Activity<'a> {
     pub group: &'a [u8],
 }
 
-/// 180, or 17, 8, 12.
-pub fn compose(sheet: &Eight, values: &Eight, buffer: &mut [u8]) -> Answer {
-    let (sheet, values, size) = (sheet.as_ptr(), values.as_ptr(), buffer.len());
-    // SAFETY: both arrays have eight numbers and are only read; pointer and
-    // size are one slice, and as `&mut` it lies apart.
-    Answer(unsafe { raw::gw_compose(sheet, values, start_mut(buffer), size) })
+/// The message's length, or 17, 8, 12.
+pub fn compose(
+    sheet: &Eight,
+    values: &Eight,
+    options: u32,
+    around: &Around,
+    buffer: &mut [u8],
+) -> Answer {
+    let size = buffer.len();
+    // SAFETY: the arrays have as many numbers as the header says, and each
+    // pointer and its size are one slice; all are only read but for the buffer,
+    // which as `&mut` lies apart.
+    Answer(unsafe {
+        raw::gw_compose(
+            sheet.as_ptr(),
+            values.as_ptr(),
+            options,
+            around.fields.as_ptr(),
+            around.format.as_ptr(),
+            start(around.user),
+            around.user.len(),
+            start_mut(buffer),
+            size,
+        )
+    })
 }
 
-/// 0 and the eight values, or 17, 1 to 8.
-pub fn read(buffer: &[u8], length: usize, sheet: &Eight, values: &mut Eight) -> Answer {
-    let (from, size, sheet) = (start(buffer), buffer.len(), sheet.as_ptr());
+/// The user data's place and the contents, or 17, 1, 18, 2 to 8.
+pub fn read(
+    buffer: &[u8],
+    length: usize,
+    sheet: &Eight,
+    options: u32,
+    contents: &mut Contents,
+) -> Answer {
+    let (values, fields) = (&mut contents.values, &mut contents.fields);
     // SAFETY: pointer and size are one slice, which is only read, as is the
-    // sheet of eight; the eight values as `&mut` lie apart.
-    Answer(unsafe { raw::gw_read(from, size, length, sheet, values.as_mut_ptr()) })
+    // sheet of eight; the three arrays have as many numbers as the header says,
+    // and as `&mut` they lie apart.
+    Answer(unsafe {
+        raw::gw_read(
+            start(buffer),
+            buffer.len(),
+            length,
+            sheet.as_ptr(),
+            options,
+            values.as_mut_ptr(),
+            fields.as_mut_ptr(),
+            contents.format.as_mut_ptr(),
+        )
+    })
 }
 
 /// Forward, or a refusal.
@@ -39,18 +87,25 @@ pub fn forward(buffer: &[u8], length: usize, sheet: &Eight, options: u32) -> Ans
 }
 
 /// Put or withhold, or a refusal.
-pub fn arrive(buffer: &[u8], length: usize, sheet: &Eight) -> Answer {
-    let (from, size) = (start(buffer), buffer.len());
+pub fn arrive(buffer: &[u8], length: usize, sheet: &Eight, options: u32) -> Answer {
+    let (from, size, sheet) = (start(buffer), buffer.len(), sheet.as_ptr());
     // SAFETY: pointer and size are one slice; it and the sheet are only read.
-    Answer(unsafe { raw::gw_arrive(from, size, length, sheet.as_ptr()) })
+    Answer(unsafe { raw::gw_arrive(from, size, length, sheet, options) })
 }
 
 /// Writes where the n-th Activity group is.
-pub fn activity_group(buffer: &[u8], length: usize, sheet: &Eight, n: usize, part: &mut Part) {
+pub fn activity_group(
+    buffer: &[u8],
+    length: usize,
+    sheet: &Eight,
+    options: u32,
+    n: usize,
+    part: &mut Part,
+) {
     let (from, size, sheet) = (start(buffer), buffer.len(), sheet.as_ptr());
     // SAFETY: pointer and size are one slice; it and the sheet are only read.
     // The part is laid out as in C, and as `&mut` it lies apart.
-    unsafe { raw::gw_activity_group(from, size, length, sheet, n, part) }
+    unsafe { raw::gw_activity_group(from, size, length, sheet, options, n, part) }
 }
 
 /// Whether there is such a string; if so, writes where it is.
@@ -58,6 +113,7 @@ pub fn named_string(
     buffer: &[u8],
     length: usize,
     sheet: &Eight,
+    options: u32,
     n: usize,
     identifier: u32,
     part: &mut Part,
@@ -65,17 +121,24 @@ pub fn named_string(
     let (from, size, sheet) = (start(buffer), buffer.len(), sheet.as_ptr());
     // SAFETY: pointer and size are one slice; it and the sheet are only read.
     // The part is laid out as in C, and as `&mut` it lies apart.
-    let found = unsafe { raw::gw_named_string(from, size, length, sheet, n, identifier, part) };
+    let found =
+        unsafe { raw::gw_named_string(from, size, length, sheet, options, n, identifier, part) };
     assert!(found <= 1, "a bool of C that is {found}");
     found == 1
 }
 
 /// The message's length, or a refusal.
-pub fn discontinuity(buffer: &mut [u8], length: usize, sheet: &Eight, done: &mut Done) -> Answer {
+pub fn discontinuity(
+    buffer: &mut [u8],
+    length: usize,
+    sheet: &Eight,
+    options: u32,
+    done: &mut Done,
+) -> Answer {
     let (size, sheet) = (buffer.len(), sheet.as_ptr());
     // SAFETY: pointer and size are one slice; the sheet is only read. Slice and
     // `done`, which is laid out as in C, are `&mut` and so lie apart.
-    Answer(unsafe { raw::gw_discontinuity(start_mut(buffer), size, length, sheet, done) })
+    Answer(unsafe { raw::gw_discontinuity(start_mut(buffer), size, length, sheet, options, done) })
 }
 
 /// The message's new length, or a refusal.

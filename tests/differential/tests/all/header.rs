@@ -3,7 +3,7 @@
 
 const HEADER: &str = include_str!("../../../../include/gwirandol.h");
 
-const DECLARATIONS: [&str; 30] = [
+const DECLARATIONS: [&str; 34] = [
     "typedef uint64_t gw_answer;",
     "{ return (uint32_t)(answer % 32); }",
     "{ return answer / 32; }",
@@ -14,38 +14,50 @@ const DECLARATIONS: [&str; 30] = [
     "static inline gw_text gw_in_words(uint32_t refusal) { gw_text words = {{0}}; \
      gw_words(refusal, words.text); return words; }",
     "uint32_t gw_feedback(uint32_t refusal);",
-    "gw_answer gw_check(const uint8_t *buffer, size_t size, size_t length);",
-    "gw_answer gw_tally(const uint8_t *buffer, size_t size, size_t length, uint32_t counts[27]);",
+    "gw_answer gw_check(const uint8_t *buffer, size_t size, size_t length, uint32_t options);",
+    "gw_answer gw_tally(const uint8_t *buffer, size_t size, size_t length, uint32_t options, \
+     uint32_t counts[27]);",
     "#define GW_LISTING_BYTES 131072 ",
-    "gw_answer gw_list(const uint8_t *buffer, size_t size, size_t length, \
+    "gw_answer gw_list(const uint8_t *buffer, size_t size, size_t length, uint32_t options, \
      uint8_t text[GW_LISTING_BYTES]);",
     "typedef struct gw_row { uint64_t depth; uint64_t place; uint64_t type; uint64_t parameter; \
      uint64_t length; uint64_t members; uint64_t next; } gw_row;",
-    "gw_answer gw_step(const uint8_t *buffer, size_t size, size_t length, size_t place, \
-     uint32_t depth, gw_row *row);",
-    "gw_answer gw_compose(const uint32_t sheet[8], const uint32_t values[8], uint8_t *buffer, \
-     size_t size);",
+    "gw_answer gw_step(const uint8_t *buffer, size_t size, size_t length, uint32_t options, \
+     size_t place, uint32_t depth, gw_row *row);",
+    "#define GW_FIELDS 3 ",
+    "#define GW_FORMAT_BYTES 8 ",
+    "enum gw_field { GW_FIELD_ENCODING = 0, GW_FIELD_CODED_CHAR_SET_ID = 1, \
+     GW_FIELD_FLAGS = 2 };",
+    "gw_answer gw_compose(const uint32_t sheet[8], const uint32_t values[8], uint32_t options, \
+     const uint32_t fields[GW_FIELDS], const uint8_t format[GW_FORMAT_BYTES], \
+     const uint8_t *user, size_t user_size, uint8_t *buffer, size_t size);",
+    "static inline gw_answer gw_compose_plain(const uint32_t sheet[8], const uint32_t values[8], \
+     uint8_t *buffer, size_t size) { const uint32_t no_fields[GW_FIELDS] = {0}; \
+     const uint8_t no_format[GW_FORMAT_BYTES] = {0}; \
+     return gw_compose(sheet, values, 0, no_fields, no_format, NULL, 0, buffer, size); }",
     "gw_answer gw_read(const uint8_t *buffer, size_t size, size_t length, \
-     const uint32_t sheet[8], uint32_t values[8]);",
+     const uint32_t sheet[8], uint32_t options, uint32_t values[8], \
+     uint32_t fields[GW_FIELDS], uint8_t format[GW_FORMAT_BYTES]);",
     "enum gw_decision { GW_DECIDED_FORWARD = 1, GW_DECIDED_PUT = 2, GW_DECIDED_WITHHOLD = 3 };",
     "gw_answer gw_forward(const uint8_t *buffer, size_t size, size_t length, \
      const uint32_t sheet[8], uint32_t options);",
     "gw_answer gw_arrive(const uint8_t *buffer, size_t size, size_t length, \
-     const uint32_t sheet[8]);",
+     const uint32_t sheet[8], uint32_t options);",
     "typedef struct gw_part { uint64_t place; uint64_t length; } gw_part;",
     "void gw_activity_group(const uint8_t *buffer, size_t size, size_t length, \
-     const uint32_t sheet[8], size_t n, gw_part *part);",
+     const uint32_t sheet[8], uint32_t options, size_t n, gw_part *part);",
     "bool gw_named_string(const uint8_t *buffer, size_t size, size_t length, \
-     const uint32_t sheet[8], size_t n, uint32_t identifier, gw_part *part);",
+     const uint32_t sheet[8], uint32_t options, size_t n, uint32_t identifier, gw_part *part);",
     "typedef struct gw_done { uint64_t counter; uint64_t appended; uint64_t report_length; \
      uint64_t message_length; } gw_done;",
     "enum gw_level { GW_LEVEL_LOW = 2, GW_LEVEL_MEDIUM = 8, GW_LEVEL_HIGH = 32 };",
     "enum gw_option { GW_OPTION_REPORTS_ASKED = 1, GW_OPTION_ACTIVITY_RECORDING = 2, \
-     GW_OPTION_TRACE_ROUTE_MESSAGING = 4, GW_OPTION_REMOTE_SUPPORTS = 8 };",
+     GW_OPTION_TRACE_ROUTE_MESSAGING = 4, GW_OPTION_REMOTE_SUPPORTS = 8, \
+     GW_OPTION_EMBEDDED = 16 };",
     "enum gw_feedback_code { GW_MQFB_MAX_ACTIVITIES = 282, GW_MQFB_NOT_FORWARDED = 283, \
      GW_MQFB_UNSUPPORTED_FORWARDING = 285, GW_MQFB_UNSUPPORTED_DELIVERY = 286 };",
     "gw_answer gw_discontinuity(uint8_t *buffer, size_t size, size_t length, \
-     const uint32_t sheet[8], gw_done *done);",
+     const uint32_t sheet[8], uint32_t options, gw_done *done);",
     "gw_answer gw_activity(uint8_t *buffer, size_t size, size_t length, \
      const uint32_t sheet[8], uint32_t options, uint32_t level, const uint8_t *group, \
      size_t group_size, uint8_t *report, size_t report_size, gw_done *done);",
@@ -111,7 +123,7 @@ fn version() {
 }
 
 /// The rules' refusal numbers, the attributes in their order and their values, IBM's sheet.
-const NUMBERS: [&str; 38] = [
+const NUMBERS: [&str; 39] = [
     "GW_ACCEPTED = 0,",
     "GW_REFUSED_LENGTH = 1,",
     "GW_REFUSED_HEADER = 2,",
@@ -129,7 +141,8 @@ const NUMBERS: [&str; 38] = [
     "GW_REFUSED_UNSUPPORTED_DELIVERY = 14,",
     "GW_REFUSED_UNSUPPORTED_FORWARDING = 15,",
     "GW_REFUSED_NOT_FORWARDED = 16,",
-    "GW_REFUSED_SHEET = 17 ",
+    "GW_REFUSED_SHEET = 17,",
+    "GW_REFUSED_EMBEDDED_HEADER = 18 ",
     "GW_ATTR_DETAIL = 0,",
     "GW_ATTR_RECORDED_ACTIVITIES = 1,",
     "GW_ATTR_UNRECORDED_ACTIVITIES = 2,",

@@ -7,7 +7,9 @@ mod fixed;
 #[cfg(target_os = "linux")]
 mod guarded;
 mod header;
+mod other;
 mod refusals;
 mod run;
+mod spare;
 mod structures;
 mod traces;

@@ -1,16 +1,16 @@
 //! What a refusal's number stands for: words and IBM's feedback code.
 
-use crate::run::run;
+use crate::run::{run, Wanted};
 use decoder::generate::Random;
 use differential::ffi::{self, WORDS_BYTES};
 
 const UNKNOWN: &str = "no refusal has this number";
 
 /// By number, and the feedback code.
-const REFUSALS: [(&str, u32); 18] = [
+const REFUSALS: [(&str, u32); 19] = [
     ("accepted", 0),
     (
-        "fewer than 36 bytes, or more than 65,536 or than the buffer has",
+        "fewer than 36 bytes (embedded: 68), or more than 65,536 or than the buffer has",
         0,
     ),
     ("the header is not sound", 0),
@@ -50,6 +50,10 @@ const REFUSALS: [(&str, u32); 18] = [
         283,
     ),
     ("the sheet of identifiers is not sound", 0),
+    (
+        "the embedded header is not sound: its identifier, version or length",
+        0,
+    ),
 ];
 
 /// The words, the zero byte, and behind them what was there before.
@@ -74,7 +78,8 @@ fn some_number(random: &mut Random) -> u32 {
 
 #[test]
 fn generated_numbers() {
-    run("numbers of refusals", 20_000, &[], |random, _| {
+    let wanted = Wanted::default();
+    run("numbers of refusals", 20_000, wanted, |random, _| {
         let number = some_number(random);
         let before = random.bytes(WORDS_BYTES).try_into().expect("as many bytes");
         compare(number, &before, &mut before.clone());

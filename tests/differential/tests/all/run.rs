@@ -2,14 +2,20 @@
 
 use decoder::generate::Random;
 use differential::failure::OnFailure;
-use differential::spread::Spread;
+use differential::spread::{Floor, Spread};
 use std::env;
 
 /// The seed of the first case where the environment names none.
 const FIRST: u64 = 20_000_101;
 
-/// From so many cases on every answer that can come has to have come.
-const MANY: u64 = 10_000;
+/// What calls in each form have to have given. A run of the usual length must
+/// have met every number often enough, and no run any other number; a longer one
+/// so many times more often as the usual length goes into its own.
+#[derive(Default)]
+pub struct Wanted {
+    pub plain: &'static [Floor],
+    pub embedded: &'static [Floor],
+}
 
 /// A number from the environment.
 fn number(name: &str) -> Option<u64> {
@@ -21,14 +27,8 @@ fn number(name: &str) -> Option<u64> {
 }
 
 /// Runs cases with the seeds from `SEED` on, `CASES` of them or as many as is
-/// usual for this kind, and prints how often each answer came. `wanted` names
-/// the answers of each entry; a long run must have met them all and no other.
-pub fn run(
-    kind: &str,
-    usual: u64,
-    wanted: &[(&'static str, &[u32])],
-    mut case: impl FnMut(&mut Random, &mut Spread),
-) {
+/// usual for this kind, and prints how often each answer came.
+pub fn run(kind: &str, usual: u64, wanted: Wanted, mut case: impl FnMut(&mut Random, &mut Spread)) {
     let first = number("SEED").unwrap_or(FIRST);
     let cases = number("CASES").unwrap_or(usual);
     let mut spread = Spread::default();
@@ -41,7 +41,7 @@ pub fn run(
         case(&mut Random::new(seed), &mut spread);
     }
     print!("{kind}: {cases} cases from seed {first}\n{spread}");
-    for (entry, numbers) in wanted {
-        spread.demand(entry, numbers, cases >= MANY);
-    }
+    spread.plain.demand("plain", wanted.plain, cases / usual);
+    let embedded = &spread.embedded;
+    embedded.demand("embedded", wanted.embedded, cases / usual);
 }

@@ -5,6 +5,7 @@ use native.Mathlib.Omega.{arith}
 use lib.ListN.{length}
 use denote.Ref.{now}
 use Rattle.meaning.specs.Activity.{Span}
+use Rattle.layout.specs.Layouts.{layoutOf}
 use Rattle.attributes.specs.Terms.{termsOf}
 use Rattle.activities.proofs.Parts.{activity-in, span-end, span-bytes}
 use borrow.Author.Needs.{needs}
@@ -15,7 +16,7 @@ use Rattle.activities.proofs.group.activity_group.Tie as tie
 ends : (c : tie.After-activity-span) → c .activity-span .result .place + c .activity-span .result .length ≤ length (now (c .before .before .args .msg))
 ends c =
     let a = c .before .before .args in
-    span-end (now (a .msg)) _ _ (c .activity-span .ensures) (activity-in (termsOf (a .sheet)) (now (a .msg)) (a .len) (a .n))
+    span-end (now (a .msg)) _ _ (c .activity-span .ensures) (activity-in (termsOf (layoutOf (a .layout)) (a .sheet)) (now (a .msg)) (a .len) (a .n))
 
 add-to : tie.Need-add-to
 add-to c = omega (arith, ends (c .before))

@@ -5,10 +5,9 @@ use mathlib.Core.Bool.{true}
 use Prim.Native.Nat.{ℕ, _+_, _≤_}
 use native.Mathlib.Omega.{arith}
 use denote.Ref.{now}
-use Rattle.meaning.specs.Bytes.{num}
+use Rattle.meaning.specs.Bytes.{partOf, num}
 use Rattle.meaning.specs.Structure.{Row}
 use Rattle.meaning.specs.Walk.{walk}
-use Rattle.meaning.specs.Message.{partOf}
 use Rattle.meaning.specs.Activity.{inMessage}
 use Rattle.meaning.proofs.Parts.{num-part}
 use Rattle.trace.specs.Passing.{crossed, isSound}
@@ -21,28 +20,28 @@ use Rattle.activities.proofs.names.first_string.Statement.{statement}
 use Rattle.activities.proofs.names.first_string.Tie as tie
 
 abbrev Inv-loop : tie.InvT-loop
-Inv-loop msg len place count id at₀ left₀ at left =
-    (stringIn (partOf msg len) id (walk (partOf msg len) place 2 count) ≡ stringIn (partOf msg len) id (walk (partOf msg len) at 2 left))
-    × (isSound (walk (partOf msg len) at 2 left) ≡ true)
+Inv-loop msg end place count id at₀ left₀ at left =
+    (stringIn (partOf msg end) id (walk (partOf msg end) place 2 count) ≡ stringIn (partOf msg end) id (walk (partOf msg end) at 2 left))
+    × (isSound (walk (partOf msg end) at 2 left) ≡ true)
 
 abbrev μ-loop : tie.MeasureT-loop
-μ-loop msg len place count id at₀ left₀ at left = left
+μ-loop msg end place count id at₀ left₀ at left = left
 
 -- the member is sound, and has 16 bytes or more in the message
-sound : (c : tie.In-loop Inv-loop μ-loop) → isSound (crossed (partOf (now (c .before .before .before .args .msg)) (c .before .before .before .args .len)) (c .before .loop .at) 2) ≡ true
+sound : (c : tie.In-loop Inv-loop μ-loop) → isSound (crossed (partOf (now (c .before .before .before .args .msg)) (c .before .before .before .args .end)) (c .before .loop .at) 2) ≡ true
 sound c = sound-first _ _ _ _ (c .loop-test .taken) (c .before .loop .inv .1)
 
-room : (c : tie.In-loop Inv-loop μ-loop) → c .before .loop .at + 16 ≤ c .before .before .before .args .len
+room : (c : tie.In-loop Inv-loop μ-loop) → c .before .loop .at + 16 ≤ c .before .before .before .args .end
 room c = known-room _ _ _ (sound c)
 
 -- its fields
-member : (c : tie.After-number-at2 Inv-loop μ-loop) {r : Row} {q : ℕ} → Over (partOf (now (c .before .before .before .before .before .args .msg)) (c .before .before .before .before .before .args .len)) (c .before .before .before .loop .at) 2 r q
-    → Member (now (c .before .before .before .before .before .args .msg)) (c .before .before .before .before .before .args .len) (c .before .before .before .loop .at) r q (c .before .number-at .result) (c .number-at2 .result)
+member : (c : tie.After-number-at2 Inv-loop μ-loop) {r : Row} {q : ℕ} → Over (partOf (now (c .before .before .before .before .before .args .msg)) (c .before .before .before .before .before .args .end)) (c .before .before .before .loop .at) 2 r q
+    → Member (now (c .before .before .before .before .before .args .msg)) (c .before .before .before .before .before .args .end) (c .before .before .before .loop .at) r q (c .before .number-at .result) (c .number-at2 .result)
 member c o = record { over = o; is-kind = c .before .number-at .ensures; is-parameter = c .number-at2 .ensures }
 
 -- a string that was found: its data lie in the message
 data-in : (c : tie.Then1 Inv-loop μ-loop)
-    → c .before .before .before .before .loop .at + 20 + num (partOf (now (c .before .before .before .before .before .before .args .msg)) (c .before .before .before .before .before .before .args .len)) (c .before .before .before .before .loop .at + 16) ≤ c .before .before .before .before .before .before .args .len
+    → c .before .before .before .before .loop .at + 20 + num (partOf (now (c .before .before .before .before .before .before .args .msg)) (c .before .before .before .before .before .before .args .end)) (c .before .before .before .before .loop .at + 16) ≤ c .before .before .before .before .before .before .args .end
 data-in c = string-in (member (c .before) (known-over _ _ _ (sound (c .before .before .before)) .1)) _ (c .if1 .taken)
 
 returns : tie.Need-returns Inv-loop μ-loop
@@ -50,7 +49,7 @@ returns c =
     let k = c .before .before in
     let l = k .before .before .before in
     let a = l .before .before .args in
-    ap (λ (x : ℕ). inMessage (record { place = l .loop .at + 20; length = x })) (c .number-at3 .ensures ∙ sym (num-part (now (a .msg)) (a .len) (l .loop .at + 16) (omega (arith, data-in (c .before)))))
+    ap (λ (x : ℕ). inMessage (record { place = l .loop .at + 20; length = x })) (c .number-at3 .ensures ∙ sym (num-part (now (a .msg)) (a .end) (l .loop .at + 16) (omega (arith, data-in (c .before)))))
     ∙ sym (l .loop .inv .0 ∙ string-hit (member k (known-over _ _ _ (sound (k .before .before)) .1)) (l .loop .left) (k .before .before .loop-test .taken) (a .id) (l .loop .inv .1) (c .before .if1 .taken))
 
 loop-again : tie.Need-loop-again Inv-loop μ-loop
@@ -68,7 +67,7 @@ returns-2 c =
     let l = c .before in
     let a = l .before .before .args in
     let z : l .loop .left ≡ 0 = omega (arith, c .loop-test .left) in
-    sym (l .loop .inv .0 ∙ rw z (string-end (partOf (now (a .msg)) (a .len)) (l .loop .at) (a .id)))
+    sym (l .loop .inv .0 ∙ rw z (string-end (partOf (now (a .msg)) (a .end)) (l .loop .at) (a .id)))
 
 pub first-string-spec : {M : Type 1} → statement M
 first-string-spec =

@@ -5,6 +5,7 @@ use native.Mathlib.Omega.{arith}
 use lib.ListN.{length}
 use denote.Ref.{now}
 use Rattle.meaning.specs.Activity.{Name}
+use Rattle.layout.specs.Layouts.{layoutOf}
 use Rattle.attributes.specs.Terms.{termsOf}
 use Rattle.activities.specs.Spans.{spanIn}
 use Rattle.activities.specs.Naming.{namedIn}
@@ -23,7 +24,7 @@ is-name e f = sym (ap namedIn f) ∙ e
 ends : (c : tie.After-name) → c .name .given .0 .0 .place + c .name .given .0 .0 .length ≤ length (now (c .before .before .before .before .before .args .msg))
 ends c =
     let a = c .before .before .before .before .before .args in
-    name-in (termsOf (a .sheet)) (now (a .msg)) (a .len) (a .n) (a .id) _ (sym (is-name (c .before .before .name-span .ensures) (c .name .given .1)))
+    name-in (termsOf (layoutOf (a .layout)) (a .sheet)) (now (a .msg)) (a .len) (a .n) (a .id) _ (sym (is-name (c .before .before .name-span .ensures) (c .name .given .1)))
 
 add-to : tie.Need-add-to
 add-to c = omega (arith, ends (c .before .before))

@@ -14,4 +14,5 @@ options-of-spec =
     (λ c κs. search needs)
     (λ c κs. search needs)
     (λ c κs. search needs)
-    (λ c. rw (c .before .before .before .any-bit .ensures, c .before .before .any-bit2 .ensures, c .before .any-bit3 .ensures, c .any-bit4 .ensures) refl))
+    (λ c κs. search needs)
+    (λ c. rw (c .before .before .before .before .any-bit .ensures, c .before .before .before .any-bit2 .ensures, c .before .before .any-bit3 .ensures, c .before .any-bit4 .ensures, c .layout-of .ensures) refl))

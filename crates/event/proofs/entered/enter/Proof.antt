@@ -11,18 +11,18 @@ pub enter-spec : {M : Type 1} → statement M
 enter-spec =
     tie.close
     (tie.spec
-    (λ c κs. (group-most _ _ _ _ _ _ _ (c .before .before .before .pre), length-most _ _ _ _ _ _ _ (c .before .before .before .pre)))
+    (λ c κs. (group-most _ _ _ _ _ _ _ _ _ (c .before .before .before .pre), length-most _ _ _ _ _ _ _ _ _ (c .before .before .before .pre)))
     (λ c. search needs)
     (λ c. search needs)
     (λ c κs. search needs)
     (λ c. search needs)
     (λ c. search needs)
-    (λ c. omega (arith, place-most _ _ _ _ _ _ _ (c .before .before .before .before .before .before .before .before .before .pre) (c .before .index-of .result) (c .before .index-of .ensures .low)))
+    (λ c. omega (arith, place-most _ _ _ _ _ _ _ _ _ (c .before .before .before .before .before .before .before .before .before .pre) (c .before .index-of .result) (c .before .index-of .ensures .low)))
     (λ c. search needs)
     (λ c. search needs)
-    (λ c κs. rw (c .before .index-of .ensures .is) (ready-writable _ _ _ _ _ _ _ (c .before .before .before .before .before .before .before .before .before .pre) _ (sym (c .before .before .before .before .before .decide .ensures) ∙ ap answerOf (c .before .before .before .answer2 .given .1))))
-    (λ c κs. ready-reportable _ _ _ _ _ _ _ (c .before .before .before .before .before .before .before .before .before .before .before .before .before .pre) _ (sym (c .before .before .before .before .before .before .before .before .before .decide .ensures) ∙ ap answerOf (c .before .before .before .before .before .before .before .answer2 .given .1)))
+    (λ c κs. rw (c .before .index-of .ensures .is) (ready-writable _ _ _ _ _ _ _ _ _ (c .before .before .before .before .before .before .before .before .before .pre) _ (sym (c .before .before .before .before .before .decide .ensures) ∙ ap answerOf (c .before .before .before .answer2 .given .1))))
+    (λ c κs. ready-reportable _ _ _ _ _ _ _ _ _ (c .before .before .before .before .before .before .before .before .before .before .before .before .before .pre) _ (sym (c .before .before .before .before .before .before .before .before .before .decide .ensures) ∙ ap answerOf (c .before .before .before .before .before .before .before .answer2 .given .1)))
     (λ c. left-denied _ _ _ _ _ _ (sym (c .before .before .before .decide .ensures) ∙ ap answerOf (c .before .answer .given .1)))
     (λ c. search needs)
     (λ c. search needs)
-    (λ c. ready-written _ _ _ _ _ _ _ (c .before .before .before .before .before .before .before .before .before .before .before .before .before .before .before .before .pre) _ (sym (c .before .before .before .before .before .before .before .before .before .before .before .before .decide .ensures) ∙ ap answerOf (c .before .before .before .before .before .before .before .before .before .before .answer2 .given .1)) _ _ (rw (← c .before .before .before .before .before .before .before .before .index-of .ensures .is) (c .before .before .before .before .before .before .write-message .ensures)) (c .before .before .write-report-if .ensures)))
+    (λ c. ready-written _ _ _ _ _ _ _ _ _ (c .before .before .before .before .before .before .before .before .before .before .before .before .before .before .before .before .pre) _ (sym (c .before .before .before .before .before .before .before .before .before .before .before .before .decide .ensures) ∙ ap answerOf (c .before .before .before .before .before .before .before .before .before .before .answer2 .given .1)) _ _ (rw (← c .before .before .before .before .before .before .before .before .index-of .ensures .is) (c .before .before .before .before .before .before .write-message .ensures)) (c .before .before .write-report-if .ensures)))

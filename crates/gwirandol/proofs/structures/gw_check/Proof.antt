@@ -8,4 +8,9 @@ use Rattle.gwirandol.proofs.structures.gw_check.Tie as tie
 
 pub gw-check-spec : {M : Type 1} → statement M
 gw-check-spec =
-    tie.close (tie.spec (λ c κs. search needs) (λ c κs. subst Fits (sym (c .check .ensures)) (check-fits _ _)) (λ c. c .checked .ensures ∙ ap code (c .before .check .ensures)))
+    tie.close
+    (tie.spec
+    (λ c κs. search needs)
+    (λ c κs. search needs)
+    (λ c κs. subst Fits (sym (c .check .ensures)) (check-fits _ _ _))
+    (λ c. rw (sym (c .before .before .layout-of .ensures)) (c .checked .ensures ∙ ap code (c .before .check .ensures))))

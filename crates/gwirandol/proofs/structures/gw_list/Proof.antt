@@ -11,5 +11,6 @@ gw-list-spec =
     tie.close
     (tie.spec
     (λ c κs. search needs)
-    (λ c κs. subst Fits (sym (c .list .ensures .answer)) (list-fits _ _))
-    (λ c. record { answer = c .listed .ensures ∙ ap code (c .before .list .ensures .answer); bytes = c .before .list .ensures .bytes }))
+    (λ c κs. search needs)
+    (λ c κs. subst Fits (sym (c .list .ensures .answer)) (list-fits _ _ _))
+    (λ c. rw (sym (c .before .before .before .layout-of .ensures)) (record { answer = c .listed .ensures ∙ ap code (c .before .list .ensures .answer); bytes = c .before .list .ensures .bytes })))

@@ -11,6 +11,7 @@ gw-step-spec =
     tie.close
     (tie.spec
     (λ c κs. search needs)
+    (λ c κs. search needs)
     (λ c. search needs)
     (λ c κs. search needs)
     (λ c. search needs)
@@ -20,5 +21,5 @@ gw-step-spec =
     (λ c. search needs)
     (λ c. search needs)
     (λ c. search needs)
-    (λ c. steps-refused _ _ _ _ _ _ (c .before .before .found .given .0 .0) (sym (c .before .before .before .before .step .ensures) ∙ ap steppedOf (c .before .before .found .given .1)) (c .number .ensures))
-    (λ c. steps-row _ _ _ _ _ (c .before .before .before .before .before .before .before .found2 .given .0 .0) _ (sym (c .before .before .before .before .before .before .before .before .before .step .ensures) ∙ ap steppedOf (c .before .before .before .before .before .before .before .found2 .given .1))))
+    (λ c. rw (sym (c .before .before .before .before .before .layout-of .ensures)) (steps-refused _ _ _ _ _ _ _ (c .before .before .found .given .0 .0) (sym (c .before .before .before .before .step .ensures) ∙ ap steppedOf (c .before .before .found .given .1)) (c .number .ensures)))
+    (λ c. rw (sym (c .before .before .before .before .before .before .before .before .before .before .layout-of .ensures)) (steps-row _ _ _ _ _ _ (c .before .before .before .before .before .before .before .found2 .given .0 .0) _ (sym (c .before .before .before .before .before .before .before .before .before .step .ensures) ∙ ap steppedOf (c .before .before .before .before .before .before .before .found2 .given .1)))))

@@ -13,5 +13,6 @@ gw-tally-spec =
     tie.close
     (tie.spec
     (λ c κs. search needs)
-    (λ c κs. subst Fits (sym (c .before .tally .ensures .answer)) (check-fits _ _))
-    (λ c. record { answer = c .checked .ensures ∙ ap code (c .before .before .tally .ensures .answer); counted = c .before .before .tally .ensures .counts }))
+    (λ c κs. search needs)
+    (λ c κs. subst Fits (sym (c .before .tally .ensures .answer)) (check-fits _ _ _))
+    (λ c. rw (sym (c .before .before .before .layout-of .ensures)) (record { answer = c .checked .ensures ∙ ap code (c .before .before .tally .ensures .answer); counted = c .before .before .tally .ensures .counts })))

@@ -14,5 +14,6 @@ gw-arrive-spec =
     tie.close
     (tie.spec
     (λ c κs. search needs)
+    (λ c κs. search needs)
     (λ c κs. subst (λ (x : Result Decision). Fits (decidedNumber x)) (sym (c .arrive .ensures)) (arrive-fits _ _ _))
-    (λ c. c .judged .ensures ∙ ap (λ (x : Result Decision). code (decidedNumber x)) (c .before .arrive .ensures)))
+    (λ c. rw (sym (c .before .before .layout-of .ensures)) (c .judged .ensures ∙ ap (λ (x : Result Decision). code (decidedNumber x)) (c .before .arrive .ensures))))

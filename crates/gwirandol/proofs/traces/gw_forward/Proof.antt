@@ -5,19 +5,22 @@ use Prim.Native.Nat.{ℕ}
 use borrow.Author.Needs.{needs}
 use Rattle.codes.specs.Codes.{code, Fits}
 use Rattle.codes.specs.Decisions.{decidedNumber}
-use Rattle.codes.specs.Options.{optionsIn}
+use Rattle.codes.specs.Options.{layoutIn, optionsIn}
 use Rattle.codes.specs.declared.options.Options.{Options}
 use Rattle.meaning.specs.Answer.{Result}
-use Rattle.meaning.specs.Trace.{Terms}
+use Rattle.layout.specs.Layouts.{layoutOf}
+use Rattle.attributes.specs.Terms.{termsOf}
 use Rattle.meaning.specs.Decision.{Decision, forwarding}
 use Rattle.gwirandol.proofs.Reach.{forward-fits}
 use Rattle.gwirandol.proofs.traces.gw_forward.Statement.{statement}
 use Rattle.gwirandol.proofs.traces.gw_forward.Tie as tie
 
--- the option, as it was taken from the bits
-by-option : (tm : Terms) (buf : List ℕ) (len : ℕ) (x : Result Decision) (o : Options) (options : ℕ) → x ≡ forwarding tm buf len (o .supporting)
-    → o ≡ optionsIn options → x ≡ forwarding tm buf len (optionsIn options .supporting)
-by-option tm buf len x o options h e = h ∙ ap (λ (p : Options). forwarding tm buf len (p .supporting)) e
+-- the options, as they were taken from the bits
+by-options : (buf sheet : List ℕ) (len : ℕ) (x : Result Decision) (o : Options) (options : ℕ) → x ≡ forwarding (termsOf (layoutOf (o .layout)) sheet) buf len (o .supporting)
+    → o ≡ optionsIn options → x ≡ forwarding (termsOf (layoutIn options) sheet) buf len (optionsIn options .supporting)
+unfolding optionsIn
+by-options buf sheet len x o options h e =
+    h ∙ ap (λ (p : Options). forwarding (termsOf (layoutOf (p .layout)) sheet) buf len (p .supporting)) e
 
 pub gw-forward-spec : {M : Type 1} → statement M
 gw-forward-spec =
@@ -27,4 +30,4 @@ gw-forward-spec =
     (λ c κs. search needs)
     (λ c κs. subst (λ (x : Result Decision). Fits (decidedNumber x)) (sym (c .forward .ensures)) (forward-fits _ _ _ _))
     (λ c. c .judged .ensures
-    ∙ ap (λ (x : Result Decision). code (decidedNumber x)) (by-option _ _ _ _ (c .before .before .options-of .result) _ (c .before .forward .ensures) (c .before .before .options-of .ensures))))
+    ∙ ap (λ (x : Result Decision). code (decidedNumber x)) (by-options _ _ _ _ (c .before .before .options-of .result) _ (c .before .forward .ensures) (c .before .before .options-of .ensures))))

@@ -1,20 +1,23 @@
 -- `put_groups` meets its contract. The loop's invariant: the lines of the Activity groups before the k-th structure are
 -- written, and those before it and from it on are the structures of the trace.
 use Prim.Native.Nat.{_-_, _≤_}
-use mathlib.Core.Path.{_≡_}
+use mathlib.Core.Path.{_≡_, _∙_}
 use native.Mathlib.Omega.{arith}
 use borrow.Author.Needs.{needs}
-use Rattle.meaning.specs.Bytes.{number}
+use Rattle.meaning.specs.Message.{parameterCount}
+use Rattle.layout.specs.Layouts.{layoutOf}
 use Rattle.attributes.specs.Terms.{termsOf}
-use Rattle.hops.proofs.Loops.{Written, header-there, begun, same-room, ready, again, finished}
+use Rattle.hops.proofs.Turns.{traceIn}
+use Rattle.hops.proofs.Loops.{Written, header-there, header-count, begun, same-room, ready, again, finished}
 use Rattle.hops.proofs.groups.put_groups.Statement.{statement}
 use Rattle.hops.proofs.groups.put_groups.Tie as tie
 
 abbrev Inv-loop : tie.InvT-loop
-Inv-loop msg sheet id out₀ count groups₀ k₀ out groups k = (count ≡ number msg 32) × (k ≤ count) × (Written (termsOf sheet) msg id out₀ out groups k)
+Inv-loop msg layout sheet id out₀ count groups₀ k₀ out groups k =
+    (count ≡ parameterCount (traceIn (termsOf (layoutOf layout) sheet) msg)) × (k ≤ count) × (Written (termsOf (layoutOf layout) sheet) msg id out₀ out groups k)
 
 abbrev μ-loop : tie.MeasureT-loop
-μ-loop msg sheet id out₀ count groups₀ k₀ out groups k = count - k
+μ-loop msg layout sheet id out₀ count groups₀ k₀ out groups k = count - k
 
 put-top-requires : tie.Need-put-top-requires Inv-loop μ-loop
 put-top-requires c κs = ready _ _ _ _ _ _ _ (c .before .before .loop .inv .2) (omega arith)
@@ -28,8 +31,11 @@ put-groups-spec =
     (tie.spec
     Inv-loop
     μ-loop
-    (λ c κs. header-there _ _ (c .before .before .args .id) _ (c .before .before .pre))
-    (λ c. (c .number-at .ensures, omega arith, begun _ _ _ _ (c .before .before .before .pre)))
+    (λ c. omega (arith, header-there _ _ (c .before .before .before .args .id) _ _ (c .before .before .before .pre)))
+    (λ c κs. omega (arith, header-there _ _ (c .before .before .before .args .id) _ _ (c .before .before .before .pre)))
+    (λ c.
+    let p = c .before .before .before .before .pre in
+    (c .number-at .ensures ∙ header-count _ _ (c .before .before .before .before .args .id) _ _ p, omega arith, begun _ _ _ _ _ p))
     put-top-requires
     (λ c. omega arith)
     (λ c. omega arith)

@@ -4,23 +4,25 @@ use mathlib.Core.List.{List}
 use Prim.Native.Nat.{ℕ}
 use borrow.Author.Needs.{needs}
 use denote.Ref.{now}
+use Rattle.meaning.specs.Layout.{Layout}
 use Rattle.meaning.specs.Message.{scan, check, tally}
 use Rattle.meaning.specs.Answer.{accepted}
+use Rattle.layout.specs.Layouts.{layoutOf, partAt}
 use Rattle.pcf.specs.Messages.{opened, RowsTallied, TalliedAs}
 use Rattle.pcf.specs.declared.message.Tallied.{Tallied}
-use Rattle.pcf.proofs.Openings.{opened-as}
-use Rattle.pcf.proofs.Openings.{opened-sized, scan-opened}
+use Rattle.pcf.proofs.Openings.{opened-as, begun, reaches, scan-opened}
 use Rattle.pcf.proofs.message.tally.Statement.{statement}
 use Rattle.pcf.proofs.message.tally.Tie as tie
 
--- the header's count
-count : (c : tie.After-known-told2) → opened (now (c .before .before .before .before .before .args .msg)) (c .before .before .before .before .before .args .len) ≡ accepted (c .before .opening2 .given .0 .0)
-count c = opened-as (c .before .before .before .opened .ensures) (c .before .opening2 .given .1)
+-- the part and the header's count
+part : (c : tie.After-known-told2) → opened (layoutOf (c .before .before .before .before .before .args .layout)) (now (c .before .before .before .before .before .args .msg)) (c .before .before .before .before .before .args .len)
+    ≡ accepted (record { part = partAt (now (c .before .before .before .before .before .args .msg)) (c .before .opening2 .given .0 .0); count = c .before .opening2 .given .0 .1 .0 })
+part c = opened-as (now (c .before .before .before .before .before .args .msg)) (c .before .before .before .opened .ensures) (c .before .opening2 .given .1)
 
 -- the answer and the counts of the message's rows are those of the message
-said : (buf : List ℕ) (len : ℕ) (t : Tallied) → RowsTallied (scan buf len) t → TalliedAs buf len t
+said : (l : Layout) (buf : List ℕ) (len : ℕ) (t : Tallied) → RowsTallied (scan l buf len) t → TalliedAs l buf len t
 unfolding check tally
-said buf len t h = record { answer = h .answer; counts = h .counts }
+said l buf len t h = record { answer = h .answer; counts = h .counts }
 
 pub tally-spec : {M : Type 1} → statement M
 tally-spec =
@@ -30,6 +32,6 @@ tally-spec =
     (λ c. search needs)
     (λ c κs. search needs)
     (λ c. search needs)
-    (λ c κs. let z = opened-sized _ _ _ (count c) in (z .there, z .most))
-    (λ c. said _ _ _ (rw (scan-opened (now (c .before .before .before .before .before .before .args .msg)) (c .before .before .before .before .before .before .args .len), opened-as (c .before .before .before .before .opened .ensures) (c .before .before .opening .given .1)) (c .refused .ensures)))
-    (λ c. said _ _ _ (rw (scan-opened (now (c .before .before .before .before .before .before .args .msg)) (c .before .before .before .before .before .before .args .len), count (c .before)) (c .structures .ensures))))
+    (λ c κs. reaches (layoutOf (c .before .before .before .before .before .args .layout)) (now (c .before .before .before .before .before .args .msg)) (c .before .before .before .before .before .args .len) (c .before .opening2 .given .0 .0) (begun (layoutOf (c .before .before .before .before .before .args .layout)) (now (c .before .before .before .before .before .args .msg)) (c .before .before .before .before .before .args .len) _ (part c) .lies))
+    (λ c. said _ _ _ _ (rw (scan-opened (layoutOf (c .before .before .before .before .before .before .args .layout)) (now (c .before .before .before .before .before .before .args .msg)) (c .before .before .before .before .before .before .args .len), opened-as (now (c .before .before .before .before .before .before .args .msg)) (c .before .before .before .before .opened .ensures) (c .before .before .opening .given .1)) (c .refused .ensures)))
+    (λ c. said _ _ _ _ (rw (scan-opened (layoutOf (c .before .before .before .before .before .before .args .layout)) (now (c .before .before .before .before .before .before .args .msg)) (c .before .before .before .before .before .before .args .len), part (c .before)) (c .structures .ensures))))

@@ -3,7 +3,7 @@ use mathlib.Core.Path.{sym, ap, _∙_}
 use native.Mathlib.Omega.{arith}
 use borrow.Author.Needs.{needs}
 use denote.Ref.{now}
-use Rattle.meaning.specs.Message.{partOf}
+use Rattle.meaning.specs.Bytes.{partOf}
 use Rattle.meaning.proofs.Structures.{structure-short}
 use Rattle.structure.specs.Rows.{reachOf}
 use Rattle.structure.proofs.Soundness.{few, enough}

@@ -4,7 +4,7 @@ use mathlib.Core.Bool.{Bool·not-not}
 use native.Mathlib.Omega.{arith}
 use borrow.Author.Needs.{needs}
 use denote.Ref.{now}
-use Rattle.meaning.specs.Message.{partOf}
+use Rattle.meaning.specs.Bytes.{partOf}
 use Rattle.meaning.proofs.Structures.{structure-short}
 use Rattle.structure.proofs.Soundness.{few, enough, tested}
 use Rattle.structure.proofs.structure.structure_at.Statement.{statement}

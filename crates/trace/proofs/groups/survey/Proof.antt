@@ -7,7 +7,7 @@ use native.Mathlib.Omega.{arith}
 use borrow.Author.Needs.{needs}
 use denote.Ref.{now}
 use Rattle.meaning.specs.Walk.{walk}
-use Rattle.meaning.specs.Message.{partOf}
+use Rattle.meaning.specs.Bytes.{partOf}
 use Rattle.meaning.proofs.Structures.{row-at}
 use Rattle.trace.specs.Groups.{surveyed}
 use Rattle.trace.proofs.Turns.{is-over, is-stop, over, over-le}
@@ -16,19 +16,19 @@ use Rattle.trace.proofs.groups.survey.Statement.{statement}
 use Rattle.trace.proofs.groups.survey.Tie as tie
 
 abbrev Inv-loop : tie.InvT-loop
-Inv-loop msg len count n at₀ left₀ routes₀ activities₀ at left routes activities =
-    (surveyed n (walk (partOf msg len) 36 1 count) ≡ surveyFrom n routes activities (walk (partOf msg len) at 1 left))
+Inv-loop msg end first count n at₀ left₀ routes₀ activities₀ at left routes activities =
+    (surveyed n (walk (partOf msg end) first 1 count) ≡ surveyFrom n routes activities (walk (partOf msg end) at 1 left))
     × (routes .count + left ≤ count) × (activities .count + left ≤ count)
 
 abbrev μ-loop : tie.MeasureT-loop
-μ-loop msg len count n at₀ left₀ routes₀ activities₀ at left routes activities = left
+μ-loop msg end first count n at₀ left₀ routes₀ activities₀ at left routes activities = left
 
 loop-holds : tie.Need-loop-holds Inv-loop μ-loop
 loop-holds c =
     let a = c .before .before .before .args in
     let e = c .none-yet2 .ensures in
     let f = c .before .none-yet .ensures in
-    (rw (e, f) (survey-start (a .n) (walk (partOf (now (a .msg)) (a .len)) 36 1 (a .count))), rw f (omega arith), rw e (omega arith))
+    (rw (e, f) (survey-start (a .n) (walk (partOf (now (a .msg)) (a .end)) (a .first) 1 (a .count))), rw f (omega arith), rw e (omega arith))
 
 count-row-requires : tie.Need-count-row-requires Inv-loop μ-loop
 count-row-requires c κs =

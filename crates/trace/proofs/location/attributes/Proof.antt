@@ -7,10 +7,9 @@ use Prim.Native.Nat.{_+_, _≤_}
 use native.Mathlib.Omega.{arith}
 use borrow.Author.Tests.{not-true, not-false}
 use denote.Ref.{now}
-use Rattle.meaning.specs.Bytes.{Part}
+use Rattle.meaning.specs.Bytes.{Part, partOf}
 use Rattle.meaning.specs.Structure.{Row}
 use Rattle.meaning.specs.Walk.{walk, rowsIn}
-use Rattle.meaning.specs.Message.{partOf}
 use Rattle.meaning.specs.Trace.{directIn, eachOnce, placesOf}
 use Rattle.trace.specs.Marks.{InReach}
 use Rattle.trace.proofs.Marking.{Placed, found-once, found-places, found-every}
@@ -21,7 +20,7 @@ use Rattle.trace.proofs.location.attributes.Tie as tie
 
 -- the message, and the direct members of the group
 abbrev part : (c : tie.After-all-found) → Part
-part c = partOf (now (c .before .before .before .args .msg)) (c .before .before .before .args .len)
+part c = partOf (now (c .before .before .before .args .msg)) (c .before .before .before .args .part .end)
 
 abbrev members : (c : tie.After-all-found) → List Row
 members c = directIn (rowsIn (walk (part c) (c .before .before .before .args .inside) 2 (c .before .before .before .args .members)))
@@ -35,16 +34,16 @@ once c b e = sym (found-once (c .before .before .before .args .sheet) (omega ari
 places : (c : tie.After-all-found) → not (c .all-found .result) ≡ false → c .before .marks-of .result ≡ placesOf (c .before .before .before .args .sheet) (members c)
 places c e = found-places (c .before .before .before .args .sheet) (omega arith) _ _ (c .before .marks-of .ensures) (placed c) (once c true (not-false _ e))
 
-reach : (c : tie.After-all-found) → not (c .all-found .result) ≡ false → InReach (c .before .before .before .args .len) (c .before .marks-of .result)
+reach : (c : tie.After-all-found) → not (c .all-found .result) ≡ false → InReach (c .before .before .before .args .part .end) (c .before .marks-of .result)
 reach c e j h =
     found-every (c .before .before .before .args .sheet) (omega arith) _ _ (c .before .marks-of .ensures) (placed c) (once c true (not-false _ e))
-    (λ q. (c .before .before .before .args .inside ≤ q) × (q + 16 ≤ c .before .before .before .args .len)) (every-member (part c) (c .before .before .before .args .inside) (c .before .before .before .args .members)) j h .1
+    (λ q. (c .before .before .before .args .inside ≤ q) × (q + 16 ≤ c .before .before .before .args .part .end)) (every-member (part c) (c .before .before .before .args .inside) (c .before .before .before .args .members)) j h .1
 
 returns : tie.Need-returns
 returns c =
     let k = c .before .before in
     let a = k .before .before .before .args in
-    c .stopped .ensures ∙ attributes-unfound (a .sheet) (part k) (members k) (a .activity) (once k false (not-true _ (c .before .if1 .taken)))
+    c .stopped .ensures ∙ attributes-unfound (a .sheet) (part k) (members k) (a .activity) (a .part) (once k false (not-true _ (c .before .if1 .taken)))
 
 values-at-requires : tie.Need-values-at-requires
 values-at-requires c κs = (c .before .before .before .before .pre .known .there, reach (c .before) (c .if1 .left))
@@ -55,14 +54,14 @@ returns-2 c =
     let a = k .before .before .before .args in
     let e = c .before .before .before .before .if1 .left in
     c .stopped2 .ensures
-    ∙ attributes-unranged (a .sheet) (part k) (members k) (a .activity) (once k true (not-false _ e)) _ _ (places k e) (c .before .before .before .values-at .ensures) (sym (c .before .before .in-range .ensures) ∙ not-true _ (c .before .if2 .taken))
+    ∙ attributes-unranged (a .sheet) (part k) (members k) (a .activity) (a .part) (once k true (not-false _ e)) _ _ (places k e) (c .before .before .before .values-at .ensures) (sym (c .before .before .in-range .ensures) ∙ not-true _ (c .before .if2 .taken))
 
 returns-3 : tie.Need-returns-3
 returns-3 c =
     let k = c .before .before .before .before in
     let a = k .before .before .before .args in
     let e = c .before .before .before .if1 .left in
-    attributes-found (a .sheet) (part k) (members k) (a .activity) (once k true (not-false _ e)) _ _ (places k e) (c .before .before .values-at .ensures) (sym (c .before .in-range .ensures) ∙ not-false _ (c .if2 .left))
+    attributes-found (a .sheet) (part k) (members k) (a .activity) (a .part) (once k true (not-false _ e)) _ _ (places k e) (c .before .before .values-at .ensures) (sym (c .before .in-range .ensures) ∙ not-false _ (c .if2 .left))
 
 pub attributes-spec : {M : Type 1} → statement M
 attributes-spec =

@@ -10,16 +10,16 @@ use Rattle.trace.proofs.passing.behind.Statement.{statement}
 use Rattle.trace.proofs.passing.behind.Tie as tie
 
 -- it has 16 bytes or more in the message
-room : (c : tie.After-shared-slice-known) → c .before .args .place + 16 ≤ c .before .args .len
+room : (c : tie.After-shared-slice-known) → c .before .args .place + 16 ≤ c .before .args .end
 room c = known-room _ _ _ (c .before .pre .sound)
 
 add-next : tie.Need-add-next
 add-next c =
     let s = c .before .before in
-    omega (arith, known-fits (now (s .args .msg)) (s .args .len) (s .args .place) (s .args .depth) _ (s .pre .sound) (c .number-at .ensures))
+    omega (arith, known-fits (now (s .args .msg)) (s .args .end) (s .args .place) (s .args .depth) _ (s .pre .sound) (c .number-at .ensures))
 
 -- its fields
-seen : (c : tie.After-number-at2) → Seen (now (c .before .before .before .args .msg)) (c .before .before .before .args .len) (c .before .before .before .args .place) (c .before .before .before .args .depth) (c .before .number-at .result) (c .number-at2 .result)
+seen : (c : tie.After-number-at2) → Seen (now (c .before .before .before .args .msg)) (c .before .before .before .args .end) (c .before .before .before .args .place) (c .before .before .before .args .depth) (c .before .number-at .result) (c .number-at2 .result)
 seen c = record { sound = c .before .before .before .pre .sound; is-size = c .before .number-at .ensures; is-kind = c .number-at2 .ensures }
 
 returns-2 : tie.Need-returns-2

@@ -6,4 +6,4 @@ use Rattle.verdict.proofs.plan.plan_discontinuity.Tie as tie
 
 pub plan-discontinuity-spec : {M : Type 1} → statement M
 unfolding planOf
-plan-discontinuity-spec = tie.close (tie.spec (λ c v. refl))
+plan-discontinuity-spec = tie.close (tie.spec (λ c v s. refl))

@@ -2,13 +2,16 @@
 
 use super::read::{any_case, other_sheet};
 use super::show;
-use crate::run::run;
-use crate::structures::other_length;
-use decoder::generate::{Random, NAMES};
+use crate::other::other_words;
+use crate::run::{run, Wanted};
+use crate::spare::spare;
+use decoder::generate::{any_layout, Random, NAMES};
 use decoder::Sheet;
 use differential::compare::bytes::same;
+use differential::compare::given::Given;
 use differential::compare::parts::{compare_group, compare_name};
 use differential::failure::OnFailure;
+use differential::spread::traces::note_group;
 use differential::spread::Spread;
 
 /// Names that are often there, and numbers that other structures have.
@@ -21,37 +24,71 @@ fn some_identifier(random: &mut Random, sheet: &Sheet) -> u32 {
     }
 }
 
+/// The n-th group; whether there is one.
+pub fn group(given: Given, sheet: &Sheet, n: usize, spread: &mut Spread) -> bool {
+    let found = compare_group(given, sheet, n);
+    let counts = spread.of(given.layout);
+    counts.note("group", u32::from(found.is_none()));
+    if let Some(part) = found {
+        note_group(counts, &given, part);
+    }
+    found.is_some()
+}
+
+/// A name in it.
+pub fn name(given: Given, sheet: &Sheet, name: (usize, u32), spread: &mut Spread) {
+    let found = compare_name(given, sheet, name);
+    spread.of(given.layout).name(found);
+}
+
 fn case(random: &mut Random, spread: &mut Spread) {
-    let (message, sheet) = any_case(random);
-    let (buffer, length) = (&message.buffer, message.length);
-    let others = (other_length(random, buffer.len()), other_sheet(random));
-    let _told = OnFailure(|| format!("others {others:?}\n{}", show::trace(buffer, length, &sheet)));
-    let before = buffer.clone();
+    let built = any_layout(random);
+    let (message, sheet) = any_case(random, built);
+    let asked = Given::of(&message, spare(random));
+    let others = (other_words(random, asked), other_sheet(random));
+    let _told = OnFailure(|| show::trace(&asked, &sheet, &others.0, &others.1));
+    let before = (message.buffer.clone(), sheet);
     for n in [0, 1, 2, 3, 4, usize::MAX, random.number() as usize] {
-        let found = compare_group(buffer, length, &sheet, n);
-        spread.note("group", u32::from(!found));
+        let found = group(asked, &sheet, n, spread);
         // Where there is no group, one name is as good as another.
         for _ in 0..if found { 5 } else { 1 } {
             let identifier = some_identifier(random, &sheet);
-            spread.name(compare_name(buffer, length, &sheet, (n, identifier)));
+            name(asked, &sheet, (n, identifier), spread);
         }
     }
-    let name = (0, random.pick(&NAMES));
-    for (length, sheet) in [(length, &others.1), (others.0, &sheet)] {
-        let found = compare_group(buffer, length, sheet, 0);
-        spread.note("group", u32::from(!found));
-        spread.name(compare_name(buffer, length, sheet, name));
+    let identifier = random.pick(&NAMES);
+    for (words, sheet) in [(asked, &others.1), (others.0, &sheet)] {
+        group(words, sheet, 0, spread);
+        name(words, sheet, (0, identifier), spread);
     }
-    same("the message", buffer, &before);
+    same("the message", &message.buffer, &before.0);
+    assert_eq!(std::hint::black_box(&sheet), &before.1);
 }
+
+const WANTED: Wanted = Wanted {
+    plain: &[
+        ("group", &[1], 260_000),
+        ("group", &[0], 24_000),
+        ("name", &[1], 360_000),
+        ("name", &[0], 22_000),
+        ("empty name", &[1], 370_000),
+        ("empty name", &[0], 6_600),
+        ("cut off a name", &[0, 1, 2, 3], 3_400),
+    ],
+    embedded: &[
+        ("group", &[1], 260_000),
+        ("group", &[0], 25_000),
+        ("name", &[1], 360_000),
+        ("name", &[0], 22_000),
+        ("empty name", &[1], 370_000),
+        ("empty name", &[0], 6_800),
+        ("cut off a name", &[0, 1, 2, 3], 3_500),
+        ("group before user data", &[0], 20_000),
+        ("group before user data", &[1], 4_900),
+    ],
+};
 
 #[test]
 fn generated_traces() {
-    let wanted: [(_, &[u32]); 4] = [
-        ("group", &[0, 1]),
-        ("name", &[0, 1]),
-        ("empty name", &[0, 1]),
-        ("cut off a name", &[0, 1, 2, 3]),
-    ];
-    run("parts", 100_000, &wanted, case);
+    run("parts", 100_000, WANTED, case);
 }

@@ -1,5 +1,6 @@
 //! A trace that events are given to, one after another.
 
+use decoder::generate::Scenario;
 use decoder::{Event, Sheet};
 use differential::compare::events::{give, Buffers};
 use differential::compare::numbers::Spare;
@@ -14,6 +15,15 @@ pub struct Stage {
 }
 
 impl Stage {
+    /// A scenario before its first event.
+    pub fn new(case: &Scenario) -> Stage {
+        Stage {
+            buffer: case.buffer.clone(),
+            length: case.length,
+            report: case.report.clone(),
+        }
+    }
+
     /// What the next event may write to.
     pub fn buffers(&mut self) -> Buffers<'_> {
         Buffers {

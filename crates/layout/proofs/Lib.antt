@@ -1,0 +1,2 @@
+mod Locations
+mod Laying

@@ -1,6 +1,0 @@
-// The hops program on a trace whose last attribute is out of range.
-fn main() {
-    let mut input = [0u8; 65537];
-    let mut out = [0u8; 131072];
-    lister::run_hops(&mut input, &mut out);
-}
