@@ -86,7 +86,7 @@ enum gw_refusal {
  * 3 and 4 the one at the lowest place, 3 before 4 at one structure; 5 to 13, by their numbers. 14, 15 and 16 come last, as
  * gw_forward says. By function:
  *
- *   gw_compose                    17  8  12
+ *   gw_compose, gw_compose_plain  17  8  12
  *   gw_check, gw_tally, gw_list   1  18  2  3 and 4  5
  *   gw_step                       1  18  3  4
  *   gw_read                       17  1  18  2  3 and 4  5  6  7  8
@@ -221,12 +221,8 @@ gw_answer gw_compose(const uint32_t sheet[8], const uint32_t values[8], uint32_t
                      const uint8_t format[GW_FORMAT_BYTES], const uint8_t *user, size_t user_size, uint8_t *buffer,
                      size_t size);
 
-static inline gw_answer gw_compose_plain(const uint32_t sheet[8], const uint32_t values[8], uint8_t *buffer, size_t size)
-{
-    const uint32_t no_fields[GW_FIELDS] = {0};
-    const uint8_t no_format[GW_FORMAT_BYTES] = {0};
-    return gw_compose(sheet, values, 0, no_fields, no_format, NULL, 0, buffer, size);
-}
+/* COMPOSE A PLAIN MESSAGE: as gw_compose does for one, with nothing else to hand over. */
+gw_answer gw_compose_plain(const uint32_t sheet[8], const uint32_t values[8], uint8_t *buffer, size_t size);
 
 /* CHECK: refusals 1, 18, and 2 to 5. Gives the number of structures, nested ones included. User data are not judged.
  *

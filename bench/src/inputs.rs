@@ -10,7 +10,7 @@ use decoder::{Embedding, Form, Header, Layout, Sheet, Values};
 pub const VALUES: [u32; 8] = [2, 0, 0, 0, 0, 0x10004, 0x100, 0x1000];
 
 /// User data of a usual text message.
-const EMBEDDING: Embedding = Embedding {
+pub const EMBEDDING: Embedding = Embedding {
     encoding: 273,
     coded_char_set_id: 819,
     format: *b"MQSTR   ",

@@ -2,7 +2,7 @@
 
 use crate::agree;
 use crate::ffi::{self, Answer, Around, Part};
-use crate::inputs::{Input, Inputs, APPLICATION, SHEET, VALUES};
+use crate::inputs::{options, Input, Inputs, APPLICATION, EMBEDDING, SHEET, VALUES};
 use crate::measure::{contender, Contender, Row};
 use decoder::{Embedding, Layout, Sheet, Values};
 use std::hint::black_box;
@@ -10,9 +10,12 @@ use std::hint::black_box;
 pub fn rows(inputs: &Inputs) -> Vec<Row<'_>> {
     let row = |entry, input: &Input, contenders| Row::new(entry, input.name, contenders);
     let reads = inputs.of_both_forms().map(|x| row("read", x, read(x)));
-    let composing = Row::new("compose", "180 bytes", compose());
+    let composing = [
+        Row::new("compose", "180 bytes", compose()),
+        Row::new("compose", "embedded, 212 bytes", compose_embedded()),
+    ];
     let forwards = inputs.plain.iter().map(|x| row("forward", x, forward(x)));
-    let mut rows: Vec<Row> = reads.chain([composing]).chain(forwards).collect();
+    let mut rows: Vec<Row> = reads.chain(composing).chain(forwards).collect();
     rows.extend(inputs.plain.iter().flat_map(names));
     rows
 }
@@ -36,12 +39,12 @@ fn compose<'a>() -> Vec<Contender<'a>> {
     let (sheet, values) = (Sheet::new(SHEET), Values::from_array(VALUES));
     let (layout, none) = (Layout::PLAIN, Embedding::NONE);
     let (mut ours, mut theirs) = ([0; 180], [0; 180]);
-    let answer = ffi::compose(&SHEET, &VALUES, 0, &Around::NOTHING, &mut ours);
+    let answer = ffi::compose_plain(&SHEET, &VALUES, &mut ours);
     assert_eq!(answer, Answer::given(180));
     vec![
         contender(move || {
             let (sheet, values) = (black_box(&SHEET), black_box(&VALUES));
-            let answer = ffi::compose(sheet, values, 0, &Around::NOTHING, &mut ours);
+            let answer = ffi::compose_plain(sheet, values, &mut ours);
             black_box(&ours);
             answer
         }),
@@ -55,6 +58,38 @@ fn compose<'a>() -> Vec<Contender<'a>> {
 }
 
 /// To a manager that doesn't support trace-route messaging.
+/// Without user data.
+fn compose_embedded<'a>() -> Vec<Contender<'a>> {
+    let (sheet, values) = (Sheet::new(SHEET), Values::from_array(VALUES));
+    let (layout, embedding) = (Layout::EMBEDDED, EMBEDDING);
+    let around = Around {
+        fields: [
+            embedding.encoding,
+            embedding.coded_char_set_id,
+            embedding.flags,
+        ],
+        format: embedding.format,
+        user: &[],
+    };
+    let (mut ours, mut theirs) = ([0; 212], [0; 212]);
+    let answer = ffi::compose(&SHEET, &VALUES, options(layout), &around, &mut ours);
+    assert_eq!(answer, Answer::given(212));
+    vec![
+        contender(move || {
+            let (sheet, values) = (black_box(&SHEET), black_box(&VALUES));
+            let answer = ffi::compose(sheet, values, options(layout), &around, &mut ours);
+            black_box(&ours);
+            answer
+        }),
+        contender(move || {
+            let (sheet, values) = (black_box(&sheet), black_box(&values));
+            let answer = decoder::compose(layout, sheet, values, &embedding, &[], &mut theirs);
+            black_box(&theirs);
+            answer
+        }),
+    ]
+}
+
 fn forward(input: &Input) -> Vec<Contender<'_>> {
     let (message, length, layout, options) = input.lent();
     let sheet = Sheet::new(SHEET);

@@ -2,6 +2,7 @@
 use Prim.Native.Nat.{ℕ}
 use mathlib.Core.List.{List}
 use Rattle.meaning.specs.Answer.{Result, accepted}
+use Rattle.meaning.specs.Layout.{plain, Layout}
 use Rattle.meaning.specs.Compose.{Composed as Meant}
 use Rattle.refusals.specs.Refusals.{refusal}
 use Rattle.compose.specs.declared.composition.Composed.{Composed}
@@ -10,6 +11,10 @@ use Rattle.compose.specs.declared.composition.Composed.the-variants.{Wri
 abbrev pub composedOf : Composed → Result ℕ
 composedOf (Written n) = accepted n
 composedOf (Refused r) = refusal r
+
+-- the layout of a message with nothing around its part
+abbrev pub plainLayout : Layout
+plainLayout = record { form = plain }
 
 -- the answer, and the buffer after it
 abbrev pub composedInto : Composed → List ℕ → Meant

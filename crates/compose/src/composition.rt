@@ -18,8 +18,9 @@ ghost use mathlib.Core.List.{_∷_, []};
 ghost use Prim.Native.Nat.{_+_, _≤_};
 ghost use lib.ListN.{length};
 ghost use Rattle.meaning.specs.Bytes.{words, splice};
+ghost use Rattle.meaning.specs.Layout.{noEmbedding};
 ghost use Rattle.meaning.specs.Compose.{composed as composedOf, compose as composeOf};
-ghost use Rattle.compose.specs.Composes.{composedInto};
+ghost use Rattle.compose.specs.Composes.{composedInto, plainLayout};
 ghost use Rattle.attributes.specs.Terms.{termsOf};
 ghost use Rattle.layout.specs.Layouts.{layoutOf, embeddingIn};
 
@@ -55,6 +56,24 @@ fn put_trace(buf: &mut [u8], sheet: [u32; 8], values: [u32; 8])
         put_four(buf, 52 + k * 16, MQCFT_INTEGER, 16, sheet[k], values[k]);
         k += 1;
     }
+}
+
+// COMPOSE A PLAIN MESSAGE: what `compose` does for a plain layout. It is a function of its own because what an embedded message
+// needs beside would cost a plain one a fifth of its time.
+pub fn compose_plain(sheet: [u32; 8], values: [u32; 8], buf: &mut [u8]) -> Composed
+    ensures { λ r. ⌜ composedInto r (now (buf .exit)) ≡ composeOf (termsOf plainLayout sheet) values noEmbedding [] (now (buf .entry)) ⌝ }
+{
+    if !sheet_ok(sheet) {
+        return Composed::Refused(Refusal::BadSheet);
+    }
+    if !in_range(values) {
+        return Composed::Refused(Refusal::BadAttribute);
+    }
+    if buf.len() < COMPOSED {
+        return Composed::Refused(Refusal::NoRoom);
+    }
+    put_trace(buf, sheet, values);
+    Composed::Written(COMPOSED)
 }
 
 // COMPOSE: writes the message to the start of the buffer: embedded, the header and the user data around the part. A refusal

@@ -3,3 +3,4 @@ mod composition;
 
 pub use composition::Composed;
 pub use composition::compose;
+pub use composition::compose_plain;

@@ -5,13 +5,15 @@ use mathlib.Core.Bool.{Bool, true, false}
 use mathlib.Core.List.{List, [], _∷_}
 use lib.ListN.{getD}
 use Rattle.meaning.specs.Answer.{Result, accepted, refused}
-use Rattle.meaning.specs.Layout.{Embedding as Meant}
+use Rattle.meaning.specs.Layout.{Embedding as Meant, noEmbedding}
 use Rattle.meaning.specs.Trace.{Terms, Reading, read}
 use Rattle.meaning.specs.Activity.{activityGroup, Name, inMessage, substitute}
 use Rattle.meaning.specs.Compose.{compose}
 use Rattle.layout.specs.Layouts.{embeddingIn}
 use Rattle.layout.specs.declared.embedding.Embedding.{Embedding}
+use Rattle.attributes.specs.Terms.{termsOf}
 use Rattle.codes.specs.Codes.{code}
+use Rattle.compose.specs.Composes.{plainLayout}
 
 -- an embedding by its fields Encoding, CodedCharSetId and Flags, and by its Format
 abbrev pub embeddingWith : List ℕ → List ℕ → Embedding
@@ -26,6 +28,11 @@ embeddingFields e = e .encoding ∷ e .codedCharSetId ∷ e .flags ∷ []
 pub record Composes (tm : Terms) (values fields format user before : List ℕ) (r : ℕ) (after : List ℕ) : Type 0 where
   pub answer : r ≡ code (compose tm values (embeddingIn (embeddingWith fields format)) user before .answer)
   pub buffer : after ≡ compose tm values (embeddingIn (embeddingWith fields format)) user before .buffer
+
+-- COMPOSE A PLAIN MESSAGE: the same, with nothing around the part
+pub record ComposesPlain (sheet values before : List ℕ) (r : ℕ) (after : List ℕ) : Type 0 where
+  pub answer : r ≡ code (compose (termsOf plainLayout sheet) values noEmbedding [] before .answer)
+  pub buffer : after ≡ compose (termsOf plainLayout sheet) values noEmbedding [] before .buffer
 
 -- READ: the user data's place, the values and the embedding; a refusal leaves them
 abbrev pub readCode : Result Reading → ℕ

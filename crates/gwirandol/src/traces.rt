@@ -13,7 +13,7 @@ ghost use Rattle.codes.specs.Codes.{code};
 ghost use Rattle.attributes.specs.Terms.{termsOf};
 ghost use Rattle.codes.specs.Decisions.{decidedNumber};
 ghost use Rattle.codes.specs.Options.{layoutIn, optionsIn};
-ghost use Rattle.gwirandol.specs.Traces.{embeddingWith, Composes, Reads, Spans, Names};
+ghost use Rattle.gwirandol.specs.Traces.{embeddingWith, Composes, ComposesPlain, Reads, Spans, Names};
 ghost use Rattle.meaning.specs.Activity.{nameOf};
 ghost use Rattle.meaning.specs.Decision.{forwarding, arrival};
 
@@ -46,6 +46,16 @@ pub extern "C" fn gw_compose(
     let v = *values;
     let e = embedding_with(*fields, *format);
     composed(compose::compose(layout_of(options), s, v, e, user, buffer))
+}
+
+// COMPOSE A PLAIN MESSAGE: as gw_compose does without options, and with nothing to hand over for an embedded one.
+#[no_mangle]
+pub extern "C" fn gw_compose_plain(sheet: &[u32; 8], values: &[u32; 8], buffer: &mut [u8]) -> u64
+    ensures { λ r. ⌜ ComposesPlain (now (sheet .entry)) (now (values .entry)) (now (buffer .entry)) r (now (buffer .exit)) ⌝ }
+{
+    let s = *sheet;
+    let v = *values;
+    composed(compose::compose_plain(s, v, buffer))
 }
 
 // READ: the user data's place, the eight values, and the embedding; or 17, then 1, 18 and 2 to 8, and all of them stay.

@@ -51,6 +51,15 @@ impl Draft<'_> {
         answer
     }
 
+    /// The library's way for plain messages.
+    fn ours_plain(&self, buffer: &mut [u8]) -> Answer {
+        let (sheet, values) = (self.sheet.identifiers, self.values.to_array());
+        let answer = ffi::compose_plain(&sheet, &values, buffer);
+        assert_eq!(black_box(&sheet), &self.sheet.identifiers, "the sheet");
+        assert_eq!(black_box(&values), &self.values.to_array(), "the values");
+        answer
+    }
+
     /// What read has to give of the composed message: of a plain one neither
     /// embedding nor user data.
     fn contents(&self) -> Contents {
@@ -75,6 +84,11 @@ pub fn compare_compose(draft: &Draft, buffer: &mut [u8]) -> Answer {
     let expected = expect::answer(composed.map(|length| length as u64));
     assert_eq!(answer, expected, "compose");
     same("compose: the buffer", buffer, &wanted);
+    if draft.layout == Layout::PLAIN {
+        let mut plain = before.clone();
+        assert_eq!(draft.ours_plain(&mut plain), expected, "compose plain");
+        same("compose plain: the buffer", &plain, &wanted);
+    }
     if answer.is_refused() {
         same("compose: the buffer after a refusal", buffer, &before);
     } else {

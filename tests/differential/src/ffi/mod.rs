@@ -21,7 +21,7 @@ pub use structures::{check, list, step, tally, KINDS, LISTING_BYTES};
 pub use {
     raw::{Done, Part},
     traces::{
-        activity, activity_group, arrive, compose, discontinuity, forward, named_string, read,
-        Activity, Contents, Eight,
+        activity, activity_group, arrive, compose, compose_plain, discontinuity, forward,
+        named_string, read, Activity, Contents, Eight,
     },
 };

@@ -51,8 +51,8 @@ extern "C" {
 }
 
 pub(super) use traces::{
-    gw_activity, gw_activity_group, gw_arrive, gw_compose, gw_discontinuity, gw_forward,
-    gw_named_string, gw_read,
+    gw_activity, gw_activity_group, gw_arrive, gw_compose, gw_compose_plain, gw_discontinuity,
+    gw_forward, gw_named_string, gw_read,
 };
 pub use traces::{Done, Part};
 

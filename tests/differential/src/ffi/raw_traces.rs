@@ -31,6 +31,13 @@ extern "C" {
         size: usize,
     ) -> u64;
 
+    pub(in super::super) fn gw_compose_plain(
+        sheet: *const u32,
+        values: *const u32,
+        buffer: *mut u8,
+        size: usize,
+    ) -> u64;
+
     pub(in super::super) fn gw_read(
         buffer: *const u8,
         size: usize,

@@ -53,6 +53,14 @@ pub fn compose(
     })
 }
 
+/// 180, or 17, 8, 12.
+pub fn compose_plain(sheet: &Eight, values: &Eight, buffer: &mut [u8]) -> Answer {
+    let (sheet, values, size) = (sheet.as_ptr(), values.as_ptr(), buffer.len());
+    // SAFETY: the arrays have eight numbers each and are only read; pointer and
+    // size are one slice, which as `&mut` lies apart.
+    Answer(unsafe { raw::gw_compose_plain(sheet, values, start_mut(buffer), size) })
+}
+
 /// The user data's place and the contents, or 17, 1, 18, 2 to 8.
 pub fn read(
     buffer: &[u8],
