@@ -34,6 +34,10 @@ pub fn print() {
         "- read and what builds on it (forward, events, names) walk the whole message on both \
          sides. The library writes lent values, the decoder returns them."
     );
+    println!(
+        "- compose: plain messages by gw_compose_plain, embedded ones by gw_compose, without user \
+         data."
+    );
     events();
     println!(
         "- name: a direct string of the first or last Activity group: 28 bytes, 16 of them trailing \
