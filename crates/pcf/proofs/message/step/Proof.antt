@@ -9,6 +9,7 @@ use Rattle.meaning.specs.Layout.{located}
 use Rattle.meaning.specs.Message.{step}
 use Rattle.meaning.proofs.Structures.{row-at}
 use Rattle.meaning.proofs.Fuel.{structure-from}
+use Rattle.meaning.proofs.Layouts.{Inside, inside}
 use Rattle.layout.specs.Layouts.{layoutOf, partAt}
 use Rattle.structure.proofs.Found.{is-row, is-refusal}
 use Rattle.pcf.specs.Messages.{Reaches}
@@ -23,6 +24,9 @@ lies c = located-as (now (c .before .before .before .before .before .args .msg))
 within : (c : tie.After-known-told2) → Reaches (now (c .before .before .before .before .before .args .msg)) (c .before .found2 .given .0 .0)
 within c = reaches (layoutOf (c .before .before .before .before .before .args .layout)) (now (c .before .before .before .before .before .args .msg)) (c .before .before .before .before .before .args .len) (c .before .found2 .given .0 .0) (lies c)
 
+message : (c : tie.After-known-told2) → Inside (partAt (now (c .before .before .before .before .before .args .msg)) (c .before .found2 .given .0 .0)) (now (c .before .before .before .before .before .args .msg)) (c .before .before .before .before .before .args .len)
+message c = inside (layoutOf (c .before .before .before .before .before .args .layout)) (now (c .before .before .before .before .before .args .msg)) (c .before .before .before .before .before .args .len) (partAt (now (c .before .before .before .before .before .args .msg)) (c .before .found2 .given .0 .0)) (lies c)
+
 pub step-spec : {M : Type 1} → statement M
 unfolding step
 step-spec =
@@ -31,7 +35,7 @@ step-spec =
     (λ c κs. search needs)
     (λ c. search needs)
     (λ c. search needs)
-    (λ c κs. within c .there)
+    (λ c κs. omega (arith, within c .there, message c .there))
     (λ c. search needs)
     (λ c. search needs)
     (λ c. omega (arith, row-at _ _ _ _ (is-row (c .before .before .before .before .structure-at .ensures) (c .before .before .met .given .1)) .at-fits, within (c .before .before .before .before .before) .most))
