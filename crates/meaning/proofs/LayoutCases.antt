@@ -12,7 +12,7 @@ use Rattle.meaning.specs.Layout.{embedded, identifier, Embedding}
 use Rattle.meaning.specs.Message.{check, step}
 use Rattle.meaning.specs.Listing.{ascii, listing}
 use Rattle.meaning.specs.Trace.{Terms, Reading, read}
-use Rattle.meaning.specs.Compose.{composeAnswer, compose}
+use Rattle.meaning.specs.Compose.{composed, composeAnswer, compose}
 use Rattle.meaning.specs.Event.{low, Event, State, Settings, discontinuity, activity, done, denied, decided, event}
 use Rattle.meaning.specs.Activity.{activityGroup, inMessage, nameOf}
 use Rattle.meaning.specs.Decision.{forward, putLocally, forwarding, arrival}
@@ -83,6 +83,13 @@ likeGroup = words (20 ∷ 16 ∷ 8005 ∷ 0 ∷ [])
 abbrev reading : ℕ → Reading
 reading place = record { values = values 7; embedding = fields; userPlace = place }
 
+-- a plain message composed with fields and user data, and the fields that are read of it
+abbrev plainMessage : ℕ → List ℕ
+plainMessage room = compose madeUp (values 7) fields five (replicate room 0) .buffer
+
+abbrev zeros : Embedding
+zeros = record { encoding = 0; codedCharSetId = 0; format = 0 ∷ 0 ∷ 0 ∷ 0 ∷ 0 ∷ 0 ∷ 0 ∷ 0 ∷ []; flags = 0 }
+
 -- an event that appends 32 bytes to a trace of so many bytes in a larger buffer; and a message
 -- composed with so many bytes of user data
 abbrev longest : ℕ → Told
@@ -138,6 +145,9 @@ embeddedCases =
     ∷ case (tells (read inside (buffer five 220) 217)) (tells (accepted (reading 212)))
     ∷ case (tells (read inside (buffer [] 220) 212)) (tells (accepted (reading 212)))
     ∷ case (gives (buffer five 220)) (gives (written 1 212 7 five ++ replicate 3 0))
+    -- of a plain message: its end, and zeros; neither fields nor user data are written
+    ∷ case (tells (read madeUp (plainMessage 183) 180)) (tells (accepted (record { values = values 7; embedding = zeros; userPlace = 180 })))
+    ∷ case (gives (plainMessage 183)) (gives (composed (madeUp .sheet) (values 7) ++ replicate 3 0))
     -- the listing: places from the message's first byte, the length of the whole message
     ∷ case (prints (listing (inside .layout) (buffer five 217) 217))
     (prints (ascii "pcf 10 75 1 217\n" ++ (ascii "1 68 20 8003 16\n" ++ (ascii "2 84 3 1201 16\n" ++ (ascii "2 100 3 1202 16\n" ++ (ascii "2 116 3 1203 16\n"
