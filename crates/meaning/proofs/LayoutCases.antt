@@ -80,6 +80,10 @@ five = 20 ∷ 0 ∷ 255 ∷ 7 ∷ 65 ∷ []
 abbrev likeGroup : List ℕ
 likeGroup = words (20 ∷ 16 ∷ 8005 ∷ 0 ∷ [])
 
+-- an Activity group with a string "A" in it, before user data
+abbrev withName : List ℕ
+withName = written 2 252 7 (words (20 ∷ 16 ∷ 8005 ∷ 1 ∷ 4 ∷ 24 ∷ 77 ∷ 0 ∷ 2 ∷ 0x41204142 ∷ []) ++ five)
+
 abbrev reading : ℕ → Reading
 reading place = record { values = values 7; embedding = fields; userPlace = place }
 
@@ -138,6 +142,11 @@ embeddedCases =
     ∷ case (next (buffer likeGroup 228) 196) (checks (accepted 212))
     ∷ case (next (buffer likeGroup 228) 212) (checks (refused 3 212))
     ∷ case (next (eightMore 64) 68) (checks (refused 18 0))
+    ∷ case (checks (andThen (step (inside .layout) (eightMore 76 ++ words (0 ∷ [])) 72 68 1) (λ s. accepted (s .next)))) (checks (refused 18 0))
+    -- it is as long as the structure says, and may not be deeper than 8
+    ∷ case (next withName 228) (checks (accepted 252))
+    ∷ case (checks (andThen (step (inside .layout) withName 257 68 8) (λ s. accepted (s .row .depth)))) (checks (accepted 8))
+    ∷ case (checks (andThen (step (inside .layout) withName 257 68 9) (λ s. accepted (s .row .depth)))) (checks (refused 4 68))
     -- neither form is taken for the other
     ∷ case (reads (valuesOf (read inside (traceWith 0 0 0 0 0x100 0x1000) 180))) (reads (refused 18 0))
     ∷ case (reads (valuesOf (read madeUp (buffer five 217) 217))) (reads (refused 2 0))
@@ -158,8 +167,7 @@ embeddedCases =
     -- no user data but an Activity group of the part is one
     ∷ case (names (inMessage (activityGroup inside (buffer likeGroup 228) 228 0))) (names (inMessage (record { place = 0; length = 0 })))
     ∷ case (names (inMessage (activityGroup inside (written 2 244 7 (lentGroup ++ likeGroup)) 260 0))) (names (inMessage (record { place = 212; length = 32 })))
-    ∷ case (names (nameOf inside (written 2 252 7 (words (20 ∷ 16 ∷ 8005 ∷ 1 ∷ 4 ∷ 24 ∷ 77 ∷ 0 ∷ 2 ∷ 0x41204142 ∷ []) ++ five)) 257 0 77))
-    (names (inMessage (record { place = 248; length = 1 })))
+    ∷ case (names (nameOf inside withName 257 0 77)) (names (inMessage (record { place = 248; length = 1 })))
     -- the group goes between part and user data, which moves back unharmed
     ∷ appended []
     ∷ appended (9 ∷ [])
