@@ -134,7 +134,7 @@ int main(void)
     static const struct {
         const char *name;
         void (*function)(void);
-    } all[] = {{"check", check}, {"tally", tally}, {"list", list}, {"one structure", step}, {"compose", composed},
+    } all[] = {{"check", check}, {"tally", tally}, {"list", list}, {"one structure", step}, {"compose, plain", composed},
                {"read", read_values}, {"forward", forward}, {"arrive", arrive}, {"Activity group", activity_group},
                {"name", named_string}, {"discontinuity", discontinuity}, {"activity", activity},
                {"activity, 65,000 bytes of user data moved", moving}};

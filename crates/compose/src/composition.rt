@@ -59,7 +59,7 @@ fn put_trace(buf: &mut [u8], sheet: [u32; 8], values: [u32; 8])
 }
 
 // COMPOSE A PLAIN MESSAGE: what `compose` does for a plain layout. It is a function of its own because what an embedded message
-// needs beside would cost a plain one a fifth of its time.
+// needs beside would make a plain one take a quarter longer.
 pub fn compose_plain(sheet: [u32; 8], values: [u32; 8], buf: &mut [u8]) -> Composed
     ensures { λ r. ⌜ composedInto r (now (buf .exit)) ≡ composeOf (termsOf plainLayout sheet) values noEmbedding [] (now (buf .entry)) ⌝ }
 {
