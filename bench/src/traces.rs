@@ -57,7 +57,6 @@ fn compose<'a>() -> Vec<Contender<'a>> {
     ]
 }
 
-/// To a manager that doesn't support trace-route messaging.
 /// Without user data.
 fn compose_embedded<'a>() -> Vec<Contender<'a>> {
     let (sheet, values) = (Sheet::new(SHEET), Values::from_array(VALUES));
@@ -90,6 +89,7 @@ fn compose_embedded<'a>() -> Vec<Contender<'a>> {
     ]
 }
 
+/// To a manager that doesn't support trace-route messaging.
 fn forward(input: &Input) -> Vec<Contender<'_>> {
     let (message, length, layout, options) = input.lent();
     let sheet = Sheet::new(SHEET);
