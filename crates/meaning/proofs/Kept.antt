@@ -24,7 +24,7 @@ tiles_clear s p [] q h r₀ i k r j = absurd (in_nil i)
 tiles_clear s p (x ∷ xs) q h r₀ (here e) k r (here f) = own (cc) (cc)
 tiles_clear s p (x ∷ xs) q h r₀ (here e) k r (there j) =
     let a : x.place ≡ r₀.place = cc in
-    above (omega (arith, h.0.at_place, h.0.at_least_lem, tiles_from s (p + x.size) xs q h.1 r j))
+    above (omega (arith, h.0.at_place, h.0.at_least, tiles_from s (p + x.size) xs q h.1 r j))
 tiles_clear s p (x ∷ xs) q h r₀ (there i) k r (here f) =
     let a : x.place ≡ r.place = cc in
     let b : x.size ≡ r.size = cc in

@@ -104,7 +104,7 @@ fuel_walks (suc f) (more {p} {d} {n} {p₁} {q} {r} t w₁ w₂) h =
     let l₁ = walks_le w₁ in
     let l₂ = walks_le w₂ in
     let l = (row_at_lem _ p d r t).at_least in
-    rw (t, fuel_walks f w₁ (omega arith), fuel_walks f w₂ (omega arith)) refl
+    rw (t, fuel_walks {p = p + r.size} f w₁ (omega arith), fuel_walks {p = p₁} f w₂ (omega arith)) refl
 
 pub walk_of : {s : Part} {p d n : ℕ} {rows : List Row} {q : ℕ} → Walks s p d n rows q → q ≤ s.end → walk s p d n ≡ walked rows q
 unfolding walk
@@ -127,6 +127,7 @@ pub data In (r : Row) : List Row → Type 0 where
   there : {y : Row} {ys : List Row} → In r ys → In r (y ∷ ys)
 
 pub in_left : {r : Row} (xs ys : List Row) → In r xs → In r (xs ++ ys)
+in_left {r = r} [] ys h = elim h [ ]
 in_left (x ∷ xs) ys (here e) = here e
 in_left (x ∷ xs) ys (there h) = there (in_left xs ys h)
 
@@ -179,6 +180,7 @@ tiles_row s p (x ∷ xs) q h r (there i) = tiles_row s (p + x.size) xs q h.1 r i
 -- every row stands at the walk's start or behind it
 pub tiles_from : (m : Part) (p : ℕ) (rows : List Row) (q : ℕ) → Tiles m p rows q → (r : Row) → In r rows → p ≤ r.place
 unfolding Tiles
+tiles_from m p [] q h r i = elim i [ ]
 tiles_from m p (x ∷ xs) q h r (here e) =
     let f : x.place ≡ r.place = cc in
     omega (arith, h.0.at_place)
