@@ -1,6 +1,8 @@
 // Numbers in bytes, and bytes over bytes. Every number of a message is read by `number_at` and written by `put_number`, and every
 // run of bytes is written by `copy` and `copy_to`. (Single bytes are read by the search for a name's end, and written by the
 // listing's text.)
+#![tactic(auto)]
+
 ghost use Rattle.std.specs.Prelude.{◌≡◌, ◌∷◌, [], ◌+◌, ◌≤◌, ◌/◌, ◌%◌, length, get_or, take, drop};
 ghost use Rattle.meaning.specs.Bytes.{number, bytes4, splice};
 ghost use Rattle.wire.specs.LeastFirst.{LeastFirst};
