@@ -1,4 +1,6 @@
 // The refusals: one case each, and its number and place.
+#![tactic(auto)]
+
 ghost use Rattle.std.specs.Prelude.{◌≡◌};
 ghost use Rattle.refusals.specs.Refusals.{number_of, place_of, owed};
 

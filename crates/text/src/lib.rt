@@ -1,5 +1,7 @@
 // The lines of a listing as text. Each writer puts its text into the lent bytes from a place on, leaves every other byte as it
 // was, and answers the place behind the text.
+#![tactic(auto)]
+
 ghost use Rattle.std.specs.Prelude.{◌≡◌, ◌∷◌, [], ◌<◌, length};
 ghost use Rattle.meaning.specs.Listing.{decimal, column, end_line, refusal_line};
 ghost use Rattle.text.specs.Wrote.{Room, Wrote};
