@@ -1,4 +1,6 @@
 // The headers of a trace-route message and of an activity report, from one table.
+#![tactic(auto)]
+
 ghost use Rattle.std.specs.Prelude.{◌≡◌, ◌+◌, ◌≤◌, ◌<◌, length, get_or, take};
 ghost use Rattle.meaning.specs.Bytes.{words, splice};
 ghost use Rattle.header.specs.Headers.{fields_of, starts_with};
@@ -6,7 +8,7 @@ ghost use Rattle.header.specs.Headers.{fields_of, starts_with};
 use wire::{number_at, put_number};
 
 // Which message a header starts.
-#[derive(Drop)]
+#[derive(Clone, Copy)]
 pub enum Kind {
     Trace,
     Report,
