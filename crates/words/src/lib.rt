@@ -1,4 +1,6 @@
 // A refusal in words, for people.
+#![tactic(auto)]
+
 ghost use Rattle.std.specs.Prelude.{◌<◌, length};
 ghost use Rattle.words.specs.Words.{words_of, words_room, Says};
 
