@@ -1,14 +1,13 @@
 -- The arms of the length test, each over plain numbers: what a rule asks, said with the fields that were read.
 use mathlib.Core.Path.{◌≡◌, refl}
-use mathlib.Core.Bool.{Bool, false, ◌&&◌}
+use mathlib.Core.Bool.{Bool, ◌&&◌}
 use mathlib.Core.List.{List}
 use Prim.Native.Nat.{ℕ, ◌+◌, ◌*◌, ◌≤◌, ◌<◌}
 use native.Mathlib.Omega.{arith}
 use lib.Dec.{leb, ltb, eqb}
-use borrow.Author.Tests.{lt-ltb, le-ltb, lt-leb, le-leb}
+use borrow.Author.Tests.{lt-ltb, le-ltb, le-leb}
 use Rattle.meaning.specs.Bytes.{number}
 use Rattle.meaning.specs.Structure.{small}
-use Rattle.meaning.proofs.Tests.{and_false}
 use Rattle.structure.specs.Rules.{kept, field_of}
 use Rattle.structure.specs.declared.table.Rule.TheVariants.{Values, Data, Strings}
 
@@ -24,18 +23,7 @@ module _ (s : List ℕ) (p n : ℕ) where
   unfolding field_of
   there k h = rw (le-leb (p + k + 4) (p + n) (omega arith)) refl
 
-  absent : (k : ℕ) → n < k + 4 → field_of s p n k ≡ 0
-  unfolding field_of
-  absent k h = rw (lt-leb (p + k + 4) (p + n) (omega arith)) refl
-
-  -- a structure that ends in its fixed part
-  pub data_short : (at : ℕ) → n < at + 4 → false ≡ kept (Data at) n (field_of s p n)
-  data_short at h = rw (absent at h, lt-leb (at + 4 + 0) n (omega arith)) refl
-
-  pub strings_short : n < 24 → false ≡ kept Strings n (field_of s p n)
-  strings_short h = rw (absent 20 h, lt-leb (24 + field_of s p n 16 * 0) n (omega arith), and_false) refl
-
-  -- one that has it
+  -- a structure that has the fields
   pub values_in_holds : (each first q : ℕ) → first ≡ field_of s p n 12 → q ≡ each * first → first < 2147483648
       → eqb n (16 + q) ≡ kept (Values each) n (field_of s p n)
   values_in_holds each first q e f h = under e h (rw (f, e) refl)

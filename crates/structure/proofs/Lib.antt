@@ -1,6 +1,5 @@
-mod Wide
 mod Lengths
 mod Soundness
-pub mod Found
+pub mod Findings
 pub mod Extents
 mod ByType

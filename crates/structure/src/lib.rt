@@ -1,4 +1,6 @@
 // One structure of a message: the table of structure types, and what stands at a place.
+#![tactic(auto)]
+
 mod structure;
 mod table;
 

@@ -25,6 +25,7 @@ pub enum Rule {
 }
 
 // The length rule that the table has for a type.
+#[tactic(auto, unfolding(meaning::specs::Structure::length_rule))]
 pub fn rule_of(kind: u32) -> Rule
     ensures { JudgesAs kind result }
 {
