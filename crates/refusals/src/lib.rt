@@ -5,7 +5,7 @@ ghost use Rattle.std.specs.Prelude.{◌≡◌};
 ghost use Rattle.refusals.specs.Refusals.{number_of, place_of, owed};
 
 // What an entry answers when it gives nothing. A case holds its place where the rules' table has one that is not 0.
-#[derive(Drop)]
+#[derive(Clone, Copy)]
 pub enum Refusal {
     // 1: length above the buffer or 65,536, or below 36, embedded 68
     BadLength,
