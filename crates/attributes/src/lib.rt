@@ -1,5 +1,7 @@
 // The eight attributes by themselves: the sheet of their identifiers, the ranges of their values, and what the values decide
 // about forwarding and arrival.
+#![tactic(auto)]
+
 mod decisions;
 mod names;
 mod ranges;
