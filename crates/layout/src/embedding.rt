@@ -9,7 +9,7 @@ use refusals::Refusal;
 use wire::{copy, copy_to, number_at, put_number};
 
 // Encoding, CodedCharSetId, Format and Flags: what the sender says of the user data.
-#[derive(Drop)]
+#[derive(Clone, Copy)]
 pub struct Embedding {
     pub encoding: u32,
     pub ccsid: u32,
@@ -18,7 +18,7 @@ pub struct Embedding {
 }
 
 // The length of a message that is to be laid out, or 12.
-#[derive(Drop)]
+#[derive(Clone, Copy)]
 pub enum Laid {
     Length(usize),
     Refused(Refusal),

@@ -20,27 +20,27 @@ pub const EMBEDDED_HEADER: usize = 32;
 // The place of StrucLength in it: it says where the part ends, counted from the message's first byte.
 pub const STRUC_LENGTH: usize = 8;
 
-#[derive(Drop)]
+#[derive(Clone, Copy)]
 pub enum Form {
     Plain,
     Embedded,
 }
 
 // What the caller says of a message. It is never guessed.
-#[derive(Drop)]
+#[derive(Clone, Copy)]
 pub struct Layout {
     pub form: Form,
 }
 
 // A part of a message: the place of its first byte, and the place behind its last one.
-#[derive(Drop)]
+#[derive(Clone, Copy)]
 pub struct Part {
     pub start: usize,
     pub end: usize,
 }
 
 // The PCF part of a message, or 1 or 18.
-#[derive(Drop)]
+#[derive(Clone, Copy)]
 pub enum Located {
     At(Part),
     Refused(Refusal),
