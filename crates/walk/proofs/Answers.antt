@@ -5,7 +5,6 @@ use Rattle.walk.specs.Tallies.{Tally, ended_of, walked_of}
 use Rattle.walk.specs.Passings.{Passage, passed_of}
 use Rattle.walk.specs.declared.passing.Passed.{Passed}
 use Rattle.walk.specs.declared.tallying.Ended.{Ended}
-use Rattle.walk.specs.declared.tallying.Ended.TheVariants as ended
 use Rattle.walk.specs.declared.tallying.Walked.{Walked}
 
 -- a walk that ended, and what its end is

@@ -1,4 +1,6 @@
 // The walk over structures and all that is inside them: without counts, to pass over them, and with a count for each type.
+#![tactic(auto)]
+
 mod passing;
 mod tallying;
 
