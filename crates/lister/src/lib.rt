@@ -2,6 +2,8 @@
 //
 // No contract can say which bytes the C library reads or writes. What can be said is said of buffers that the caller lends:
 // what was read stands in the one, what was handed to the writer in the other.
+#![tactic(auto)]
+
 ghost use Rattle.std.specs.Prelude.{take};
 ghost use Rattle.io.specs.Counts.{IsPrefixLen};
 ghost use Rattle.layout.specs.Layouts.{layout_of};
@@ -23,7 +25,7 @@ const IBM_SHEET: [u32; 8] = [1234, 1235, 1257, 1237, 1236, 1238, 1259, 1239];
 const MQCACF_APPL_NAME: u32 = 3024;
 
 // How many bytes were read, and how many bytes of text were handed to the writer.
-#[derive(Drop)]
+#[derive(Clone, Copy)]
 pub struct Ran {
     pub read: usize,
     pub handed: usize,

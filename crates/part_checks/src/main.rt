@@ -1,6 +1,8 @@
 // Runs the forms that hand out parts of a message and hold one, on the messages of the corners: the returned parts against
 // place and length, the reader against single steps; first on plain messages, then on embedded ones. Each line says what was
 // found and whether it is the same.
+#![tactic(auto)]
+
 mod messages;
 mod parts;
 mod places;

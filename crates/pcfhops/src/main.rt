@@ -1,5 +1,7 @@
 // The hops program: the Activity groups of a trace with the names of the applications, in a plain message. Its stored run has
 // four groups.
+#![tactic(auto)]
+
 use layout::{Form, Layout};
 
 fn main() {

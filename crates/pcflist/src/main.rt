@@ -1,4 +1,6 @@
 // The listing program, for plain messages. Its stored run: a composed message under the sheet 1201 to 1208.
+#![tactic(auto)]
+
 use layout::{Form, Layout};
 
 fn main() {

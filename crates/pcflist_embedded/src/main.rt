@@ -1,5 +1,7 @@
 // The listing program, for embedded messages: the structures of the part behind the embedded header, with their places in the
 // whole message. Its stored run: the composed message of pcflist's run, embedded, and five bytes of user data behind it.
+#![tactic(auto)]
+
 use layout::{Form, Layout};
 
 fn main() {
