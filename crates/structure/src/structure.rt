@@ -24,7 +24,7 @@ const MOST_DEPTH: u32 = 8;
 
 // A structure: its depth, 1 at the top; its place; Type, Parameter and StrucLength; and how many structures follow inside
 // it: a group's ParameterCount, 0 for every other type.
-#[derive(Drop)]
+#[derive(Clone, Copy)]
 pub struct Row {
     pub depth: u32,
     pub place: usize,
@@ -35,14 +35,14 @@ pub struct Row {
 }
 
 // What stands at a place: a sound structure, or 3 or 4.
-#[derive(Drop)]
+#[derive(Clone, Copy)]
 pub enum Found {
     Structure(Row),
     Refused(Refusal),
 }
 
 // How far a sound structure reaches and how many structures follow inside it, or 3 or 4.
-#[derive(Drop)]
+#[derive(Clone, Copy)]
 pub enum Extent {
     Sound(u32, u32),
     Refused(Refusal),

@@ -8,7 +8,7 @@ use wire::number_at;
 pub const TWO_TO_31: u32 = 2147483648;
 
 // The length rule of a structure type. Fields are named by their offset from the structure's start.
-#[derive(Drop)]
+#[derive(Clone, Copy)]
 pub enum Rule {
     // exactly this length
     Exact(u32),
