@@ -10,7 +10,7 @@ use crate::ranges::any_bit;
 use refusals::Refusal;
 
 // What is done with the message.
-#[derive(Drop)]
+#[derive(Clone, Copy)]
 pub enum Decision {
     Forward,
     PutLocally,
@@ -18,7 +18,7 @@ pub enum Decision {
 }
 
 // The decision, or a refusal.
-#[derive(Drop)]
+#[derive(Clone, Copy)]
 pub enum Judged {
     Decided(Decision),
     Refused(Refusal),

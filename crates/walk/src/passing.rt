@@ -9,7 +9,7 @@ use refusals::Refusal;
 use structure::{Extent, extent_at};
 
 // The place behind the last structure and how many there are, nested ones included; or the first fault.
-#[derive(Drop)]
+#[derive(Clone, Copy)]
 pub enum Passed {
     Behind(usize, u32),
     Refused(Refusal),

@@ -12,14 +12,14 @@ use structure::{Extent, extent_at};
 use wire::number_at;
 
 // Where a walk ended: at the place behind the last structure, or at a fault.
-#[derive(Drop)]
+#[derive(Clone, Copy)]
 pub enum Ended {
     Behind(usize),
     Refused(Refusal),
 }
 
 // How a walk ended, and a count for each type, 0 to 26; no counts after a fault.
-#[derive(Drop)]
+#[derive(Clone, Copy)]
 pub struct Walked {
     pub ended: Ended,
     pub tally: [u32; 27],
