@@ -1,24 +1,16 @@
 -- The answer to an event, by the tests that come first.
 use mathlib.Core.Path.{◌≡◌, refl}
-use mathlib.Core.Bool.{Bool, true, false, cond, not, ◌&&◌}
+use mathlib.Core.Bool.{true, false, not, ◌&&◌}
 use mathlib.Core.List.{List}
-use Prim.Native.Nat.{ℕ, ◌+◌, ◌≤◌, ◌<◌}
+use Prim.Native.Nat.{ℕ, ◌+◌}
 use native.Mathlib.Omega.{arith}
 use lib.ListN.{get_or}
 use lib.Dec.{leb, ltb}
-use borrow.Author.Tests.{le-leb, lt-leb, lt-ltb, le-ltb, eq-eqb, ne_eqb, leb-true, leb-false}
-use Rattle.meaning.specs.Names.{most_count, most_bytes}
+use borrow.Author.Tests.{lt-ltb, le-ltb, eq-eqb, ne_eqb}
+use Rattle.meaning.specs.Names.{most_count}
 use Rattle.meaning.specs.Layout.{room_for}
 use Rattle.meaning.specs.Trace.{value}
 use Rattle.meaning.specs.Event.{done, denied, Plan, counter_sum, over_limit, reply_owed, report_length, done_by, decide}
-
--- not at most is above
-pub not_leb : (a b : ℕ) → ltb b a ≡ not (leb a b)
-not_leb a b = go (leb a b) refl
-  where
-    go : (t : Bool) → leb a b ≡ t → ltb b a ≡ not t
-    go true e = le-ltb b a (leb-true a b e)
-    go false e = lt-ltb b a (leb-false a b e)
 
 -- THE LIMIT, from the limit and the sum
 module _ (v : List ℕ) (limit total : ℕ) (l : limit ≡ get_or v 4 0) (s : total ≡ counter_sum v) where
@@ -29,16 +21,6 @@ module _ (v : List ℕ) (limit total : ℕ) (l : limit ≡ get_or v 4 0) (s : to
   pub by_sum : (limit ≡ 0 → ⊥) → ltb limit (total + 1) ≡ over_limit v
   unfolding over_limit
   by_sum z = rw (lt-ltb 0 (get_or v 4 0) (omega arith), ← l, ← s) refl
-
--- ROOM
-pub no_room_for : (appends : Bool) (longer room : ℕ) → appends ≡ true → room < longer → true ≡ (appends && not (room_for longer room))
-no_room_for appends longer room a h = rw (a, lt-leb longer room h) refl
-
-pub by_most : (appends : Bool) (longer room : ℕ) → appends ≡ true → longer ≤ room → ltb most_bytes longer ≡ (appends && not (room_for longer room))
-by_most appends longer room a h = rw (a, le-leb longer room h) (not_leb longer most_bytes)
-
-pub by_reserve : (reports : Bool) (size reserve : ℕ) → reports ≡ true → ltb reserve (36 + size) ≡ (reports && not (leb (report_length size) reserve))
-by_reserve reports size reserve e = rw e (not_leb (36 + size) reserve)
 
 -- THE ANSWER
 module _ (v : List ℕ) (p : Plan) (size len room reserve : ℕ) where
@@ -64,7 +46,3 @@ module _ (v : List ℕ) (p : Plan) (size len room reserve : ℕ) where
         pub is_done_holds : p.reports && not (leb (report_length size) reserve) ≡ false → done (done_by p size len) ≡ decide v p size len room reserve
         unfolding decide
         is_done_holds e = rw (within, ne_eqb (value v p.counter) most_count below, fits, e) refl
-
-pub if_most : (b : Bool) (n : ℕ) → cond b n 0 ≤ n
-if_most true n = omega arith
-if_most false n = omega arith

@@ -1,4 +1,6 @@
 // What an event comes to, before any byte is written: what is due for it, and whether it may be done.
+#![tactic(auto)]
+
 mod answer;
 mod plan;
 

@@ -10,7 +10,7 @@ use attributes::{
 use layout::Layout;
 
 // The level of an activity.
-#[derive(Drop)]
+#[derive(Clone, Copy)]
 pub enum Level {
     Low,
     Medium,
@@ -18,7 +18,7 @@ pub enum Level {
 }
 
 // What the queue manager does: activity recording, trace-route messaging; and how the trace is laid out.
-#[derive(Drop)]
+#[derive(Clone, Copy)]
 pub struct Settings {
     pub recording: bool,
     pub messaging: bool,
@@ -26,14 +26,14 @@ pub struct Settings {
 }
 
 // The counters of a trace.
-#[derive(Drop)]
+#[derive(Clone, Copy)]
 pub enum Counter {
     Recorded,
     Unrecorded,
     Discontinuities,
 }
 
-#[derive(Drop)]
+#[derive(Clone, Copy)]
 pub struct Plan {
     pub counter: Counter,
     pub appends: bool,
