@@ -1,11 +1,10 @@
 -- The sum of a list, one element after the other.
-use mathlib.Core.Path.{◌≡◌, refl, ap, ◌∙◌}
+use mathlib.Core.Path.{◌≡◌, refl}
 use mathlib.Core.List.{List, [], ◌∷◌, sum}
 use Prim.Native.Nat.{ℕ, zero, suc, ◌+◌, ◌≤◌}
 use native.Mathlib.Numerals.{add-one}
 use native.Mathlib.Omega.{arith}
-use lib.ListN.{length, get_or, take}
-use lib.Seq.{take_all}
+use lib.ListN.{get_or, take}
 
 sum_suc : (t : List ℕ) (k : ℕ) → sum ◌+◌ 0 (take (suc k) t) ≡ sum ◌+◌ 0 (take k t) + get_or t k 0
 unfolding sum
@@ -23,6 +22,3 @@ sum_part [] zero = omega arith
 sum_part [] (suc k) = omega arith
 sum_part (x ∷ t) zero = omega arith
 sum_part (x ∷ t) (suc k) = omega (arith, sum_part t k)
-
-pub sum_all : (t : List ℕ) (k n : ℕ) → n ≡ sum ◌+◌ 0 (take k t) → length t ≤ k → n ≡ sum ◌+◌ 0 t
-sum_all t k n e h = e ∙ ap (sum ◌+◌ 0) (take_all k t h)

@@ -1,4 +1,6 @@
 // Whole PCF messages: check, tally, and one structure at a time.
+#![tactic(auto)]
+
 mod message;
 
 pub use message::{
