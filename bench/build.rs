@@ -8,7 +8,7 @@ use std::process::Command;
 mod link;
 
 fn main() {
-    link::library("../target/staticlib");
+    link::library("../crates/gwirandol/out");
     if let Err(error) = plain_check() {
         println!("cargo::error={error}");
     }

@@ -2,7 +2,7 @@
 //! functions, for the check beside plain C, and for an append beside plain Rust
 //! that does nothing else. Prints tables in Markdown.
 //!
-//! First `rt staticlib gwirandol` in the repository's root, or the library's
+//! First `share/build library` in the repository's root, or the library's
 //! folder in `GWIRANDOL_LIB`. Then `cargo run --release --offline`. With the
 //! argument `times` it makes one pass and prints the library's times alone, for
 //! `bench/before-and-after`, which puts two libraries side by side.

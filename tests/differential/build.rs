@@ -3,5 +3,5 @@
 mod link;
 
 fn main() {
-    link::library("../../target/staticlib");
+    link::library("../../crates/gwirandol/out");
 }

@@ -16,7 +16,7 @@ pub fn library(usual: &str) {
     println!("cargo::rerun-if-changed={}", file.display());
     if !file.is_file() {
         println!(
-            "cargo::error={} is missing: build it with `rt staticlib gwirandol` in the \
+            "cargo::error={} is missing: build it with `share/build library` in the \
              repository's root, or name its folder in {FOLDER}",
             file.display()
         );

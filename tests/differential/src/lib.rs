@@ -2,7 +2,7 @@
 //! independent decoder, call by call. `tests/` compares on generated messages of
 //! both forms; the fuzzer in the repository's `fuzz/` on those that it finds.
 //!
-//! First `rt staticlib gwirandol` in the repository's root, or the library's
+//! First `share/build library` in the repository's root, or the library's
 //! folder in `GWIRANDOL_LIB`. Then `cargo test --release --offline`, with
 //! `-- --nocapture` to see how many cases of each kind ran and how often each
 //! answer came. `CASES` is the number of cases of each kind, `SEED` the seed
