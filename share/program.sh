@@ -1,5 +1,5 @@
 # A proved program with an exit status: 0 listed, 1 refused, 2 wrong usage, or not run or not written. The program itself has
-# none, since its language has none. It is asked for behind lines that set `name`, `program`, its path, and `version`.
+# none of its own. It is asked for behind lines that set `name`, `program`, its path, and `version`.
 
 case $name in
 pcflist) lists="the structures of the plain PCF message on standard input: depth, place, type, parameter and length of each" ;;
