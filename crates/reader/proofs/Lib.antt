@@ -1,3 +1,2 @@
-mod Held
 pub mod Tops
 pub mod Samples

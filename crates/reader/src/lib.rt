@@ -1,8 +1,10 @@
 // A reader: a message, how it is laid out and a place in it, for callers that take one structure at a time and stop when they
 // please. Such a caller asks what stands `here`, and goes on with `moved` to the place behind it: one deeper into a group that
 // has members, else at the same depth, until as many structures were taken as the group or the header counts. The counts still
-// due are the caller's to keep. Functions over a struct that holds a slice are proved by hand, statement by statement: they are
-// few and thin, and what has to be decided is left to functions over plain slices and numbers.
+// due are the caller's to keep. Functions over a struct that holds a slice are few and thin, and what has to be decided is left
+// to functions over plain slices and numbers.
+#![tactic(auto)]
+
 ghost use Rattle.std.specs.Prelude.{◌≡◌};
 ghost use Rattle.layout.specs.Layouts.{layout_of};
 ghost use Rattle.pcf.specs.Messages.{stepped_of};
