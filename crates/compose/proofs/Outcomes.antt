@@ -4,14 +4,13 @@ use mathlib.Core.Bool.{true, false}
 use mathlib.Core.List.{List, []}
 use Prim.Native.Nat.{ℕ, ◌≤◌, ◌<◌}
 use lib.ListN.{length}
-use borrow.Author.Tests.{eq-eqb, leb-true, le-leb, lt-leb}
+use borrow.Author.Tests.{eq-eqb, le-leb, lt-leb}
 use Rattle.meaning.specs.Bytes.{splice}
 use Rattle.meaning.specs.Names.{bad_sheet, bad_attribute, no_room}
 use Rattle.meaning.specs.Answer.{Result, accepted, refused}
-use Rattle.meaning.specs.Layout.{Form, Embedding, no_embedding, laid_out, laid_out_length}
+use Rattle.meaning.specs.Layout.{Embedding, no_embedding, laid_out}
 use Rattle.meaning.specs.Trace.{Terms, sheet_ok, in_range}
 use Rattle.meaning.specs.Compose.{composed, composed_message, message_length, values_ok, compose_answer, composed_buffer, Composed, compose}
-use Rattle.meaning.proofs.Tests.{and_true, unless_accepted}
 use Rattle.layout.specs.Layouts.{fitting}
 use Rattle.attributes.specs.Terms.{terms_of}
 use Rattle.compose.specs.Composes.{plain_layout}
@@ -55,8 +54,3 @@ module _ (sheet v : List ℕ) (buf : List ℕ) (ok : sheet_ok sheet ≡ true) (e
       → compose_ends (accepted 180) b ≡ compose (terms_of plain_layout sheet) v no_embedding [] buf
   unfolding laid_out
   written_plain h b w = written (terms_of plain_layout sheet) v no_embedding [] buf ok eight range 180 (rw (le-leb 180 (length buf) h) refl) b w
-
--- where a length was answered the message fits
-pub fits : (n size room : ℕ) (f : Form) (user : ℕ) → accepted n ≡ fitting (laid_out_length f user size) room → laid_out_length f user size ≤ room
-fits n size room f user h =
-    leb-true _ _ (and_true _ _ (unless_accepted _ no_room 0 _ n (sym h)).0).0

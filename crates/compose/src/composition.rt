@@ -18,7 +18,7 @@ use wire::put_number;
 const COMPOSED: usize = 180;
 
 // The length written, or 17, 8 or 12.
-#[derive(Drop)]
+#[derive(Clone, Copy)]
 pub enum Composed {
     Written(usize),
     Refused(Refusal),

@@ -1,4 +1,6 @@
 // Compose: a new trace.
+#![tactic(auto)]
+
 mod composition;
 
 pub use composition::{Composed, compose, compose_plain};

@@ -16,7 +16,7 @@ const MOST_COUNT: u32 = 2147483647;
 
 // What an accepted event did: the counter that rose, whether the group was appended, the report's length or 0, and the
 // message's length now.
-#[derive(Drop)]
+#[derive(Clone, Copy)]
 pub struct Done {
     pub counter: Counter,
     pub appended: bool,
@@ -25,7 +25,7 @@ pub struct Done {
 }
 
 // What an event answers.
-#[derive(Drop)]
+#[derive(Clone, Copy)]
 pub enum Answer {
     Done(Done),
     Refused(Refusal),
