@@ -13,7 +13,7 @@ use structure::{MQCFT_GROUP, Row};
 use walk::Ended;
 
 // A group: its place, the place of what is inside it, its length with all of that, and how many direct members it has.
-#[derive(Drop)]
+#[derive(Clone, Copy)]
 pub struct Group {
     pub place: usize,
     pub inside: usize,
@@ -22,7 +22,7 @@ pub struct Group {
 }
 
 // How many top-level groups with an identifier there are, and one of them; all 0 where there is none.
-#[derive(Drop)]
+#[derive(Clone, Copy)]
 pub struct Counted {
     pub count: usize,
     pub group: Group,
@@ -30,7 +30,7 @@ pub struct Counted {
 
 // Where the top-level structures end, or the first fault; the TraceRoute groups, with the first of them; and the Activity
 // groups, with the one that was asked for.
-#[derive(Drop)]
+#[derive(Clone, Copy)]
 pub struct Tops {
     pub ended: Ended,
     pub routes: Counted,

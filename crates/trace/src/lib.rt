@@ -1,4 +1,6 @@
 // Trace-route messages: the header, the TraceRoute group, and where its eight attributes and the Activity groups are.
+#![tactic(auto)]
+
 mod groups;
 mod location;
 mod members;

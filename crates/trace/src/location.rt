@@ -16,7 +16,7 @@ use refusals::Refusal;
 use walk::Ended;
 
 // A sound trace, or 17, then 1, 18 and 2 to 8.
-#[derive(Drop)]
+#[derive(Clone, Copy)]
 pub enum Answer {
     Found,
     Refused(Refusal),
@@ -24,7 +24,7 @@ pub enum Answer {
 
 // The places and the values of the eight attributes of a sound trace, an Activity group, and the part that the trace is in its
 // message; all 0 if refused.
-#[derive(Drop)]
+#[derive(Clone, Copy)]
 pub struct Traced {
     pub answer: Answer,
     pub places: [usize; 8],

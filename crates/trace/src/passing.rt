@@ -10,7 +10,7 @@ use walk::{Passed, over};
 use wire::number_at;
 
 // A structure and the place behind all that is inside it, or the first fault there.
-#[derive(Drop)]
+#[derive(Clone, Copy)]
 pub enum Crossing {
     Over(Row, usize),
     Refused(Refusal),
