@@ -1,4 +1,6 @@
 // The listing of a message as text.
+#![tactic(auto)]
+
 mod rows;
 mod whole;
 

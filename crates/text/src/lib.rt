@@ -8,7 +8,7 @@ ghost use Rattle.text.specs.Wrote.{Room, Wrote};
 ghost use Rattle.text.specs.Lines.{line_text, header_text};
 
 // What the line of a structure shows.
-#[derive(Drop)]
+#[derive(Clone, Copy)]
 pub struct Line {
     pub depth: u32,
     pub place: u32,
