@@ -1,4 +1,6 @@
 // Answers as numbers, and numbers taken apart, for C.
+#![tactic(auto)]
+
 mod code;
 mod events;
 mod feedback;

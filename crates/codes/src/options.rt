@@ -7,7 +7,7 @@ use layout::{Form, Layout};
 
 // Reports are asked for; what the queue manager does: activity recording, trace-route messaging; whether the remote one
 // supports trace-route messaging; and how the message is laid out. A call looks at those that it has a use for.
-#[derive(Drop)]
+#[derive(Clone, Copy)]
 pub struct Options {
     pub asked: bool,
     pub recording: bool,
