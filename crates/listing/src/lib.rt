@@ -19,7 +19,7 @@ use text::put_refusal;
 use whole::put_listing;
 
 // What `list` answers: the text's length, or 1, 18, or 2 to 5.
-#[derive(Drop)]
+#[derive(Clone, Copy)]
 pub enum Listed {
     Text(usize),
     Refused(Refusal),

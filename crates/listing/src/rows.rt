@@ -9,7 +9,7 @@ use text::{Line, put_line};
 use wire::number_at;
 
 // The place behind the text that was written, and the place behind the structures that it shows.
-#[derive(Drop)]
+#[derive(Clone, Copy)]
 pub struct Behind {
     pub text: usize,
     pub place: usize,

@@ -13,35 +13,35 @@ use walk::{Ended, Passed, over, siblings};
 use wire::number_at;
 
 // What a check finds: the number of structures, nested ones included, or 1, 18, or 2 to 5.
-#[derive(Drop)]
+#[derive(Clone, Copy)]
 pub enum Checked {
     Sound(u32),
     Refused(Refusal),
 }
 
 // The part of a message and its header's number of structures, or 1, 18 or 2.
-#[derive(Drop)]
+#[derive(Clone, Copy)]
 pub enum Opening {
     Sound(Part, u32),
     Refused(Refusal),
 }
 
 // The check's answer, and how many structures there are of each type, 0 to 26; all 0 if refused.
-#[derive(Drop)]
+#[derive(Clone, Copy)]
 pub struct Tallied {
     pub answer: Checked,
     pub counts: [u32; 27],
 }
 
 // A place in a message, and the depth of the structure there.
-#[derive(Drop)]
+#[derive(Clone, Copy)]
 pub struct Cursor {
     pub place: usize,
     pub depth: u32,
 }
 
 // One structure and the place behind it, or 1 or 18, then 3 or 4.
-#[derive(Drop)]
+#[derive(Clone, Copy)]
 pub enum Stepped {
     Structure(Row, usize),
     Refused(Refusal),

@@ -15,7 +15,7 @@ use pcf::{Cursor, Stepped, step};
 use walk::{Passed, over};
 
 // The whole slice is the message. It is held, not copied.
-#[derive(Drop)]
+#[derive(Clone, Copy)]
 pub struct Reader<'a> {
     pub msg: &'a [u8],
     pub layout: Layout,
