@@ -1,4 +1,6 @@
 // Read, and the decisions about a message that rest on it: forwarding and arrival.
+#![tactic(auto)]
+
 ghost use Rattle.std.specs.Prelude.{◌≡◌};
 ghost use Rattle.meaning.specs.Trace.{read as read_of};
 ghost use Rattle.meaning.specs.Decision.{forwarding, arrival};
@@ -12,7 +14,7 @@ use layout::{Embedding, Layout, embedding_of, no_embedding};
 use trace::{Answer, trace_of};
 
 // The eight values of a sound trace, in the rules' order, its embedding, and the place of its user data; all 0 if refused.
-#[derive(Drop)]
+#[derive(Clone, Copy)]
 pub struct Values {
     pub answer: Answer,
     pub values: [u32; 8],
