@@ -38,7 +38,7 @@ use Rattle.trace.proofs.Marking.{Every, every_named, every_direct, next_direct}
 use Rattle.trace.proofs.Locating.{nth_walk, traced_refused}
 
 -- ONE TURN over direct members
-abbrev is_string : ℕ → ℕ → ℕ → Bool
+abbrev pub is_string : ℕ → ℕ → ℕ → Bool
 is_string id kind parameter = eqb kind MQCFT_STRING && eqb parameter id
 
 string_more : (m : Part) (id : ℕ) (r : Row) (rs : List Row) (b c : Bool) → eqb r.kind MQCFT_STRING ≡ b → eqb r.parameter id ≡ c → b && c ≡ true

@@ -9,7 +9,7 @@ use layout::Layout;
 use trace::trace_of;
 
 // A part of the message: where it starts, and how many bytes it has.
-#[derive(Drop)]
+#[derive(Clone, Copy)]
 pub struct Span {
     pub place: usize,
     pub length: usize,

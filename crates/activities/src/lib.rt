@@ -1,4 +1,6 @@
 // Activity groups: the n-th of a message as a part of it, and the names in it.
+#![tactic(auto)]
+
 mod group;
 mod names;
 

@@ -20,7 +20,7 @@ const BLANK: u8 = 0x20;
 const ZERO: u8 = 0x00;
 
 // A part of the message, or the lent substitute whole.
-#[derive(Drop)]
+#[derive(Clone, Copy)]
 pub enum Named {
     InMessage(Span),
     Substitute,
