@@ -4,6 +4,8 @@
 // and the report buffer are those of the meaning's `event` on what the entry was given. The theorem `demand3` is about runs
 // of that same `event`, so a caller that hands message, length and report buffer on from call to call gets, call for call,
 // the answers and states that the theorem speaks of.
+#![tactic(auto)]
+
 mod entered;
 mod group;
 mod written;

@@ -1,0 +1,39 @@
+use Rattle.std.proofs.Common.{◌≡◌, ℕ, List, sym, ap, ◌∙◌, arith}
+use Rattle.meaning.specs.Event.{Plan, Answer, discontinuity, plan_of, decide}
+use Rattle.verdict.specs.Plans.{settings_of, answer_of}
+use Rattle.verdict.specs.declared.plan.Settings.{Settings}
+use Rattle.event.proofs.Entries.{count_length, count_place_holds, count_denied, count_writable, count_written}
+use Rattle.event.proofs.entered.count.Goals as goal
+
+-- what was decided, with the plan of a discontinuity
+told : (v : List ℕ) (s : Settings) (len room : ℕ) {p : Plan} {a : Answer} → p ≡ plan_of v (discontinuity (settings_of s)) → a ≡ decide v p 0 len room 0
+    → decide v (plan_of v (discontinuity (settings_of s))) 0 len room 0 ≡ a
+told v s len room e d = ap (λ (q : Plan). decide v q 0 len room 0) (sym e) ∙ sym d
+
+pub decide-answer-requires : goal.decide-answer-requires
+decide-answer-requires c = (omega arith, count_length _ _ _ _ _ c.requires)
+
+pub overflow_add-places : goal.overflow_add-places
+overflow_add-places c = omega (arith, count_place_holds _ _ _ _ _ c.requires)
+
+pub overflow_add-values : goal.overflow_add-values
+overflow_add-values c =
+    let a = c.args in
+    let w = count_writable _ _ _ _ _ c.requires _ (told a.values a.settings _ _ (c.plan_discontinuity.ensures a.values (settings_of a.settings)) c.decide-answer.ensures ∙ ap answer_of c.in-Done.is) in
+    omega (arith, w.value_fits)
+
+pub put_number-requires : goal.put_number-requires
+put_number-requires c =
+    let a = c.args in
+    let w = count_writable _ _ _ _ _ c.requires _ (told a.values a.settings _ _ (c.plan_discontinuity.ensures a.values (settings_of a.settings)) c.decide-answer.ensures ∙ ap answer_of c.in-Done.is) in
+    omega (arith, w.inside, w.within, w.message)
+
+pub returns-in-Refused : goal.returns-in-Refused
+returns-in-Refused c report =
+    let a = c.args in
+    count_denied _ _ _ _ _ c.requires _ _ _ (told a.values a.settings _ _ (c.plan_discontinuity.ensures a.values (settings_of a.settings)) c.decide-answer.ensures ∙ ap answer_of c.in-Refused.is) report
+
+pub returns-in-Done : goal.returns-in-Done
+returns-in-Done c report =
+    let a = c.args in
+    count_written _ _ _ _ _ c.requires _ (told a.values a.settings _ _ (c.plan_discontinuity.ensures a.values (settings_of a.settings)) c.decide-answer.ensures ∙ ap answer_of c.in-Done.is) _ c.put_number.ensures report
