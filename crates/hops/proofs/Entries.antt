@@ -16,7 +16,7 @@ use Rattle.trace.specs.Locations.{present, lying, Readout, traced_by}
 use Rattle.trace.proofs.Locating.{traced_refused, traced-found}
 use Rattle.hops.specs.Hops.{hop_lines, hops_in, hops_text}
 use Rattle.text.specs.Prints.{Prints}
-use Rattle.hops.specs.Groups.{LinesDue, groups_of, LinesDone}
+use Rattle.hops.specs.Groups.{groups_of, LinesDone}
 use Rattle.hops.specs.declared.groups.Groups.{Groups}
 use Rattle.text.proofs.Printed.{wrote_as, wrote_length, prints}
 
@@ -43,9 +43,6 @@ module _ (tm : Terms) (msg : List ℕ) (id : ℕ) (before : List ℕ) (o : Reado
     found =
         let g = traced-found 0 (part_in tm.layout msg (length msg)) (read_trace tm msg (length msg)) o h f in
         (record { rows = g.0; places = o.places; values = o.values }, g.1, g.2)
-
-    pub lines_due : LinesDue tm msg o.part before
-    lines_due = record { trace = found.0; sound = found.1; lies = found.2; room = room }
 
     module _ (middle : List ℕ) (g : Groups) (d : LinesDone tm msg id before middle g) where
       both : Room before 0 (hop_lines tm msg id g.count ++ end_line g.count)

@@ -42,6 +42,7 @@ walks_fit (more {rs₁} {rs₂} t w₁ w₂) r (there i) = in_cases rs₁ rs₂ 
 -- a row is no longer than all of them
 row_size : (rows : List Row) → Every (λ r. r.size ≤ size_of rows) rows
 unfolding size_of
+row_size [] r i = absurd (in_nil i)
 row_size (x ∷ xs) r (here e) = let f : r.size ≡ x.size = ap (λ (y : Row). y.size) e in omega arith
 row_size (x ∷ xs) r (there i) = omega (arith, row_size xs r i)
 

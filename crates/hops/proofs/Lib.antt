@@ -1,7 +1,5 @@
 -- what is written for a name
 pub mod Names
--- what the reader finds at the top level
-pub mod Spots
 -- the parts that are handed out
 pub mod Parts
 -- how long a line is

@@ -1,11 +1,11 @@
 -- A name as text: the bytes that are written for it.
-use mathlib.Core.Path.{◌≡◌, refl, sym, ap, ◌∙◌, subst}
+use mathlib.Core.Path.{◌≡◌, refl, sym, ap, ◌∙◌}
 use mathlib.Core.List.{List, [], ◌∷◌, ◌++◌}
 use Prim.Native.Nat.{ℕ, suc, ◌+◌, ◌≤◌, ◌<◌}
 use native.Mathlib.Numerals.{add-one}
 use native.Mathlib.Omega.{arith}
 use lib.ListN.{length, get_or, set, take, length-append}
-use lib.Seq.{take-suc, take_all}
+use lib.Seq.{take-suc}
 use lib.Dec.{leb}
 use borrow.Author.Tests.{le-leb, lt-leb}
 use Rattle.meaning.proofs.Tests.{and_false}
@@ -61,9 +61,6 @@ module _ (d : List ℕ) (at : ℕ) (name : List ℕ) where
       in
       let p = push v w f in
       record { bytes = rw x p.bytes; place = rw x (omega (arith, p.place)) }
-
-  pub all_written : (t : List ℕ) (i : ℕ) → Wrote d at (shown (take i name)) t (at + i) → length name ≤ i → Wrote d at (shown name) t (at + i)
-  all_written t i w h = subst (λ (l : List ℕ). Wrote d at (shown l) t (at + i)) (take_all i name h) w
 
 -- THE END of the line, behind a name
 pub line_end : {d : List ℕ} {at : ℕ} {xs t : List ℕ} {n : ℕ} → Wrote d at xs t n → Room d at (xs ++ 10 ∷ []) → Wrote d at (xs ++ 10 ∷ []) (set t n 10) (n + 1)

@@ -20,14 +20,14 @@ use wire::number_at;
 const NO_NAME: [u8; 1] = *b"-";
 
 // What a top-level structure is: an Activity group, with its place, or something else.
-#[derive(Drop)]
+#[derive(Clone, Copy)]
 enum Spot {
     Activity(usize),
     Other,
 }
 
 // How many Activity groups there are, and the place behind the text of their lines.
-#[derive(Drop)]
+#[derive(Clone, Copy)]
 pub struct Groups {
     pub count: u32,
     pub text: usize,

@@ -1,4 +1,6 @@
 // The Activity groups of a trace-route message, one line each: where the group is, how long it is, and a name in it.
+#![tactic(auto)]
+
 mod groups;
 mod line;
 mod name;
