@@ -1,33 +1,18 @@
 -- What stands around a part: the length with it, its bytes, and their meaning.
 use mathlib.Core.Path.{◌≡◌, refl, sym, ap, ◌∙◌}
 use mathlib.Core.List.{List, ◌++◌, append_assoc, append-nil}
-use Prim.Native.Nat.{ℕ, ◌+◌, ◌≤◌, ◌<◌}
+use Prim.Native.Nat.{ℕ, ◌+◌, ◌≤◌}
 use native.Mathlib.Nat.{zero-add}
 use native.Mathlib.Omega.{arith}
 use lib.ListN.{length, take, drop, replicate, length-append, length-drop}
 use lib.Seq.{length-take-le, get_or-take, get_or-drop, ext_get_or, take_all}
-use borrow.Author.Tests.{le-leb, lt-leb}
 use Rattle.meaning.specs.Bytes.{part_of, number, bytes4, words, splice, store}
-use Rattle.meaning.specs.Names.{most_bytes, no_room}
-use Rattle.meaning.specs.Answer.{accepted, refused}
 use Rattle.meaning.specs.Layout.{plain, embedded, identifier, Embedding, embedding_of, embedded_header, laid_out, lengthened}
-use Rattle.meaning.proofs.Tests.{and_false}
 use Rattle.meaning.proofs.Numbers.{length-bytes4}
 use Rattle.meaning.proofs.Splices.{length_splice, take_written, splice_next, splice_front}
 use Rattle.meaning.proofs.Parts.{num_part}
 use Rattle.meaning.proofs.Layouts.{length_header}
-use Rattle.layout.specs.Layouts.{fitting, Around}
-
--- THE LENGTH: above the room, above 65,536, or neither
-module _ (n room : ℕ) where
-  pub above_room : room < n → refused no_room 0 ≡ fitting n room
-  above_room h = rw (lt-leb n room h) refl
-
-  pub above_most : most_bytes < n → refused no_room 0 ≡ fitting n room
-  above_most h = rw (lt-leb n most_bytes h, and_false) refl
-
-  pub fits : n ≤ room → n ≤ most_bytes → accepted n ≡ fitting n room
-  fits h k = rw (le-leb n room h, le-leb n most_bytes k) refl
+use Rattle.layout.specs.Layouts.{Around}
 
 -- THE EMBEDDING, read from the first bytes of a message
 pub format_read : (buf : List ℕ) → 32 ≤ length buf → splice (replicate 8 0) 0 (take 8 (drop 20 buf)) ≡ (embedding_of embedded (part_of buf 32)).format

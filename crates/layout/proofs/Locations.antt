@@ -19,11 +19,6 @@ use Rattle.layout.specs.declared.part.Form.{Form}
 use Rattle.layout.specs.declared.part.Form.TheVariants.{Plain, Embedded}
 use Rattle.layout.specs.declared.part.Layout.{Layout}
 
--- an embedded header is all that may stand in front of a part
-pub start_most : (f : Form) → start_of (form_of f) ≤ 32
-start_most Plain = omega arith
-start_most Embedded = omega arith
-
 module _ (l : Layout) (buf : List ℕ) (len start : ℕ) (starts : start ≡ start_of (form_of l.form)) where
   -- the test of the length
   length_test : length_ok (layout_of l) buf len ≡ leb len (length buf) && (leb len most_bytes && leb (start + 36) len)

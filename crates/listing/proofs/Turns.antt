@@ -1,7 +1,7 @@
 -- The turns of the code that writes the lines of a walk, each over plain lists and numbers.
 use mathlib.Core.Path.{◌≡◌, refl, sym, ap, ◌∙◌, subst}
 use mathlib.Core.List.{List, [], ◌++◌, append-nil}
-use Prim.Native.Nat.{ℕ, ◌+◌, ◌-◌, ◌≤◌, ◌<◌}
+use Prim.Native.Nat.{ℕ, ◌+◌, ◌-◌, ◌<◌}
 use native.Mathlib.Omega.{arith}
 use lib.ListN.{length}
 use Rattle.meaning.specs.Bytes.{number, whole}
@@ -32,9 +32,6 @@ wrote_none d at = record { bytes = sym (splice-none d at); place = omega arith }
 module _ (s : List ℕ) (p d : ℕ) (out : List ℕ) (at : ℕ) (u : RowsDue s p d 1 out at) where
   pub its : Opened s p d u.rows u.next
   its = opened s p d u.rows u.next u.sound u.start
-
-  pub line_fits : (l : Line) → l ≡ line_at s p d → p + l.size ≤ length s
-  line_fits l e = omega (arith, its.fits, ap (λ (x : Line). x.size) e)
 
   both : Room out at (line_text (line_at s p d) ++ row_lines its.inside)
   both = room_as its.lines u.room

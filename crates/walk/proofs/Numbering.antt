@@ -32,14 +32,6 @@ numbered_behind n xs (accepted y) =
     ap (reached y.next) e
 numbered_behind n xs (refused k q) = refl
 
--- at first there are none
-pub number_all : (m : Part) (p d n : ℕ) → passage (walk m p d n) ≡ numbered 0 (walk m p d n)
-number_all m p d n = go (walk m p d n)
-  where
-    go : (w : Result Walked) → passage w ≡ numbered 0 w
-    go (accepted x) = let e : length x.rows ≡ 0 + length x.rows = omega arith in ap (reached x.next) e
-    go (refused k q) = refl
-
 module _ (m : Part) (p d n : ℕ) where
   -- the rows of a walk that came to q, over k structures
   pub record Past (q k : ℕ) : Type 0 where
