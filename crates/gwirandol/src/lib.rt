@@ -1,4 +1,6 @@
 // The functions for C: libgwirandol.a, declared in include/gwirandol.h.
+#![tactic(auto)]
+
 mod events;
 mod refusal;
 mod structures;
