@@ -1,5 +1,8 @@
-use Rattle.std.proofs.Common.{◌≡◌, refl, sym, ◌∙◌, arith, get_or}
+use Rattle.std.proofs.Common.{◌≡◌, ℕ, refl, ap, sym, ◌∙◌, arith, get_or}
 use Rattle.meaning.specs.Bytes.{part_of}
+use Rattle.meaning.specs.Walk.{walk}
+use Rattle.meaning.proofs.Lists.{zeros_at}
+use Rattle.trace.specs.Marks.{mark_from}
 use Rattle.trace.proofs.Skipping.{known_room, behind_over, sound_first, sound_next}
 use Rattle.trace.proofs.Marking.{mark_end, mark_read}
 use Rattle.trace.proofs.members.marks_of.Goals as goal
@@ -17,6 +20,15 @@ number_at-requires-in-loop-left c = omega (arith, known_room _ _ _ (sound_first 
 pub behind-at-requires : goal.behind-at-requires
 behind-at-requires c =
     record { there = c.requires.there; most = c.requires.most; sound = sound_first _ _ _ _ c.loop-left-test.true c.loop-left.invariant.2 }
+
+-- no member is noted yet
+pub loop-left-init : goal.loop-left-init
+loop-left-init c =
+    let a = c.args in (
+      refl,
+      λ j h. ap (λ (x : ℕ). mark_from (get_or a.sheet j 0) x (walk (part_of a.msg.now a.end) a.place 2 a.count)) (sym (zeros_at 8 j)),
+      c.requires.sound,
+    )
 
 pub loop-left-preserved : goal.loop-left-preserved
 loop-left-preserved c =
