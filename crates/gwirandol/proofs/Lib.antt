@@ -1,5 +1,3 @@
 mod Reach
-mod Steps
 mod Readings
 mod Applied
-mod Naming

@@ -1,7 +1,7 @@
--- Read for C: what it gives, or the refusal and nothing written.
-use mathlib.Core.Path.{◌≡◌, refl, sym, ap, ◌∙◌}
+-- Read for C: the places that it tells are small.
+use mathlib.Core.Path.{◌≡◌, sym, ap, ◌∙◌}
 use mathlib.Core.List.{List}
-use Prim.Native.Nat.{ℕ, ◌+◌, ◌*◌, ◌≤◌}
+use Prim.Native.Nat.{ℕ, ◌≤◌}
 use Rattle.meaning.specs.Answer.{Result, accepted, refused}
 use Rattle.meaning.specs.Trace.{Terms, Reading, read}
 use Rattle.refusals.specs.Refusals.{number_of, place_of, refusal}
@@ -10,7 +10,6 @@ use Rattle.routing.specs.Readings.{Answered, reading, given, beside_of, values_o
 use Rattle.trace.specs.declared.location.Answer.{Answer}
 use Rattle.trace.specs.declared.location.Answer.TheVariants as told
 use Rattle.routing.specs.declared.Values.{Values}
-use Rattle.gwirandol.specs.Traces.{embedding_fields, Reads}
 use Rattle.gwirandol.proofs.Reach.{read_small, read_user}
 
 module _ (tm : Terms) (buf : List ℕ) (len : ℕ) (v : Values) (e : values_of v ≡ reading (read tm buf len)) where
@@ -25,18 +24,9 @@ module _ (tm : Terms) (buf : List ℕ) (len : ℕ) (v : Values) (e : values_of v
     pub read_place : place_of r ≤ 65536
     read_place = read_small tm buf len (number_of r) (place_of r) is_refused
 
-    pub reads_refused : (values fields format : List ℕ) (n : ℕ) → n ≡ place_of r * 32 + number_of r → Reads tm buf len values fields format n values fields format
-    reads_refused values fields format n c =
-        record { answer = rw is_refused c; values_told = rw is_refused refl; fields_told = rw is_refused refl; format_told = rw is_refused refl }
-
   module _ (h : v.answer ≡ told.Found) where
     is_found : read tm buf len ≡ accepted (beside_of v)
     is_found = sym (answered (read tm buf len) e) ∙ ap (λ (a : Answer). given a (beside_of v)) h
 
     pub user_place_holds : v.user ≤ 65536
     user_place_holds = read_user tm buf len (beside_of v) is_found
-
-    pub reads_found : (values fields format : List ℕ) (n : ℕ) → n ≡ v.user * 32
-        → Reads tm buf len values fields format n v.values (embedding_fields (beside_of v).embedding) v.embedding.format
-    reads_found values fields format n c =
-        record { answer = rw is_found c; values_told = rw is_found refl; fields_told = rw is_found refl; format_told = rw is_found refl }
