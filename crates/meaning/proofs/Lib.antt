@@ -33,9 +33,9 @@ pub mod Tops
 pub mod Outcomes
 -- the lines of a listing fit
 pub mod Lines
--- THEOREM scan-ignores
+-- THEOREM scan_ignores
 pub mod Ignored
--- THEOREM rows-tile
+-- THEOREM rows_tile
 pub mod Tiling
 -- Traces: what Read accepts, and Compose
 -- the eight attributes among the rows
@@ -48,7 +48,7 @@ pub mod Sound
 pub mod Changed
 -- a composed message: its rows and its attributes
 pub mod Composed
--- THEOREMS compose-reads-back, composed-listing
+-- THEOREMS compose_reads_back, composed-listing
 pub mod ReadsBack
 -- Events, and demand 3
 -- what an accepted event leaves is a sound trace
@@ -57,27 +57,27 @@ pub mod Applied
 pub mod Plans
 -- how long a group is
 pub mod Spans
--- THEOREM event-seen
+-- THEOREM event_seen
 pub mod Views
 -- two traces alike but for the limit, under one event
 pub mod Twins
--- THEOREM accepted-event
+-- THEOREM accepted_event
 pub mod Accepted
--- THEOREM reported-soundly
+-- THEOREM reported_soundly
 pub mod Reports
 -- THEOREM demand3
 pub mod Demand3
 -- Names
 -- the data of a string lies in the message
 pub mod Strings
--- THEOREMS trimmed-name, trimmed-bytes
+-- THEOREMS trimmed_name, trimmed_bytes
 pub mod Trimmed
 -- Worked examples
--- THEOREMS p-cases, command-event
+-- THEOREMS p_cases, command-event
 pub mod Cases
--- THEOREM corner-cases
+-- THEOREM corner_cases
 pub mod Corners
--- THEOREM embedded-cases
+-- THEOREM embedded_cases_lem
 pub mod LayoutCases
--- THEOREM demand3-met
+-- THEOREM demand3_met
 pub mod Demand3Met
