@@ -1,5 +1,4 @@
 -- The numbers that the rules use, under IBM's names, and the names of the refusals.
--- (Names of IBM's stand in «..», because an underscore alone marks an argument's place in this language.)
 use Rattle.std.specs.Prelude.{ℕ}
 
 -- the most bytes of a message
