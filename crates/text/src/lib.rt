@@ -8,7 +8,7 @@ ghost use Rattle.text.specs.Wrote.{Room, Wrote};
 ghost use Rattle.text.specs.Lines.{line_text, header_text};
 
 // What the line of a structure shows.
-#[derive(Clone, Copy)]
+#[derive(Clone, Copy, Debug, PartialEq, Eq)]
 pub struct Line {
     pub depth: u32,
     pub place: u32,
@@ -41,12 +41,10 @@ pub fn put_decimal(out: &mut [u8], at: usize, v: u32) -> usize
     ensures { Wrote out.old at (decimal v) out.new result }
 {
     let count = width(v);
-    let mut left = count;
     let mut rest = v;
-    while 0 < left {
-        left -= 1;
-        out[at + left] = 48 + (rest % 10) as u8;
-        rest = rest / 10;
+    for left in (0..count).rev() {
+        out[at + left] = b'0' + (rest % 10) as u8;
+        rest /= 10;
     }
     at + count
 }
@@ -61,16 +59,14 @@ pub fn put_column(out: &mut [u8], at: usize, v: u32, behind: u8) -> usize
     end + 1
 }
 
-// Four bytes of a word.
-fn put_four(out: &mut [u8], at: usize, a: u8, b: u8, c: u8, d: u8) -> usize
-    requires { Room out.old at (a ∷ b ∷ c ∷ d ∷ []) }
-    ensures { Wrote out.old at (a ∷ b ∷ c ∷ d ∷ []) out.new result }
+// A word.
+fn put_word(out: &mut [u8], at: usize, word: &[u8]) -> usize
+    requires { Room out.old at word.now }
+    ensures { Wrote out.old at word.now out.new result }
 {
-    out[at] = a;
-    out[at + 1] = b;
-    out[at + 2] = c;
-    out[at + 3] = d;
-    at + 4
+    let end = at + word.len();
+    out[at..end].copy_from_slice(word);
+    end
 }
 
 // The line of a structure: depth, place, type, parameter, length.
@@ -90,7 +86,7 @@ pub fn put_header(out: &mut [u8], at: usize, kind: u32, command: u32, count: u32
     requires { Room out.old at (header_text kind command count len) }
     ensures { Wrote out.old at (header_text kind command count len) out.new result }
 {
-    let a = put_four(out, at, b'p', b'c', b'f', b' ');
+    let a = put_word(out, at, b"pcf ");
     let b = put_column(out, a, kind, b' ');
     let c = put_column(out, b, command, b' ');
     let d = put_column(out, c, count, b' ');
@@ -102,7 +98,7 @@ pub fn put_end(out: &mut [u8], at: usize, count: u32) -> usize
     requires { Room out.old at (end_line count) }
     ensures { Wrote out.old at (end_line count) out.new result }
 {
-    let a = put_four(out, at, b'e', b'n', b'd', b' ');
+    let a = put_word(out, at, b"end ");
     put_column(out, a, count, b'\n')
 }
 
@@ -111,8 +107,7 @@ pub fn put_refusal(out: &mut [u8], at: usize, number: u32, place: u32) -> usize
     requires { Room out.old at (refusal_line number place) }
     ensures { Wrote out.old at (refusal_line number place) out.new result }
 {
-    let a = put_four(out, at, b'r', b'e', b'f', b'u');
-    let b = put_four(out, a, b's', b'e', b'd', b' ');
-    let c = put_column(out, b, number, b' ');
-    put_column(out, c, place, b'\n')
+    let a = put_word(out, at, b"refused ");
+    let b = put_column(out, a, number, b' ');
+    put_column(out, b, place, b'\n')
 }

@@ -3,14 +3,14 @@ use Rattle.text.proofs.Laws.{front, behind, then}
 use Rattle.meaning.specs.Listing.{end_line}
 use Rattle.text.proofs.put_end.Goals as goal
 
-pub put_four-a-requires : goal.put_four-a-requires
+pub put_word-a-requires : goal.put_word-a-requires
 unfolding end_line
-put_four-a-requires c = front _ c.requires
+put_word-a-requires c = front _ c.requires
 
 pub put_column-requires : goal.put_column-requires
 unfolding end_line
-put_column-requires c = behind _ c.put_four-a.ensures c.requires
+put_column-requires c = behind _ c.put_word-a.ensures c.requires
 
 pub returns : goal.returns
 unfolding end_line
-returns c = then c.put_four-a.ensures (λ h. c.put_column.ensures) c.requires
+returns c = then c.put_word-a.ensures (λ h. c.put_column.ensures) c.requires
