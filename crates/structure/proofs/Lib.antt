@@ -1,5 +1,4 @@
 mod Lengths
 mod Soundness
-pub mod Findings
 pub mod Extents
 mod ByType
