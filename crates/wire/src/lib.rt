@@ -1,5 +1,5 @@
 // Numbers in bytes, and bytes over bytes. Every number of a message is read by `number_at` and written by `put_number`, and every
-// run of bytes is written by `copy` and `copy_to`. (Single bytes are read by the search for a name's end, and written by the
+// run of bytes is written by `copy_to`. (Single bytes are read by the search for a name's end, and written by the
 // listing's text.)
 #![tactic(auto)]
 
@@ -21,30 +21,12 @@ fn four_at(s: &[u8], at: usize) -> u32
         + (s[at + 3] as u32) * 16777216
 }
 
-// The number whose four bytes are those of `x` the other way round. It compiles to one instruction.
-fn turned(x: u32) -> u32
-    ensures { LeastFirst result (x / 16777216 % 256) (x / 65536 % 256) (x / 256 % 256) (x % 256) }
-{
-    x % 256 * 16777216 + x / 256 % 256 * 65536 + x / 65536 % 256 * 256 + x / 16777216
-}
-
 // The number in the four bytes at `at`, most significant first: the one reader of numbers.
 pub fn number_at(s: &[u8], at: usize) -> u32
     requires { at + 4 ≤ length s.now }
     ensures { result ≡ number s.now at }
 {
-    turned(four_at(s, at))
-}
-
-// Writes the four bytes of a number at `at`, least significant first: one write of a whole word.
-fn put_four(s: &mut [u8], at: usize, v: u32)
-    requires { at + 4 ≤ length s.old }
-    ensures { s.new ≡ splice s.old at (v % 256 ∷ v / 256 % 256 ∷ v / 65536 % 256 ∷ v / 16777216 % 256 ∷ []) }
-{
-    s[at] = (v % 256) as u8;
-    s[at + 1] = (v / 256 % 256) as u8;
-    s[at + 2] = (v / 65536 % 256) as u8;
-    s[at + 3] = (v / 16777216 % 256) as u8;
+    four_at(s, at).swap_bytes()
 }
 
 // Writes the four bytes of a number at `at`, most significant first.
@@ -52,40 +34,22 @@ pub fn put_number(s: &mut [u8], at: usize, v: u32)
     requires { at + 4 ≤ length s.old }
     ensures { s.new ≡ splice s.old at (bytes4 v) }
 {
-    put_four(s, at, turned(v));
+    s[at..at + 4].copy_from_slice(&v.to_be_bytes());
 }
 
-// Copies all of `from` to the start of `to`; what is behind stays. A caller that writes further on lends the part of its
-// buffer from there.
-pub fn copy(to: &mut [u8], from: &[u8])
-    requires { length from.now ≤ length to.old }
-    ensures { to.new ≡ splice to.old 0 from.now }
-{
-    let mut i = 0;
-    while i < from.len() {
-        to[i] = from[i];
-        i += 1;
-    }
-}
-
-// Writes all of `from` over `to` from `at` on: the part of `to` from there is lent on to the copying routine.
+// Writes all of `from` over `to` from `at` on.
+#[tactic(auto, using(crate::proofs::Parts::over_part))]
 pub fn copy_to(to: &mut [u8], at: usize, from: &[u8])
     requires { at + length from.now ≤ length to.old }
     ensures { to.new ≡ splice to.old at from.now }
 {
-    copy(&mut to[at..], from);
+    to[at..at + from.len()].copy_from_slice(from);
 }
 
-// The most bytes that are moved: those of a whole message.
-const BLOCK: usize = 65536;
-
-// Moves the `n` bytes at `from` back by `by` bytes. They are taken whole before any of them is written, so that it does not matter
-// how far the two places overlap. The compiler makes one move of the two copies: in the object code there is no block.
+// Moves the `n` bytes at `from` back by `by` bytes, however far the two places overlap: the compiler makes one move of it.
 pub fn move_back(s: &mut [u8], from: usize, n: usize, by: usize)
-    requires { (from + n + by ≤ length s.old) × (n ≤ 65536) }
+    requires { from + n + by ≤ length s.old }
     ensures { s.new ≡ splice s.old (from + by) (take n (drop from s.old)) }
 {
-    let mut block = [0u8; BLOCK];
-    copy(&mut block, &s[from..from + n]);
-    copy_to(s, from + by, &block[..n]);
+    s.copy_within(from..from + n, from + by);
 }
