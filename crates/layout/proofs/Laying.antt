@@ -4,27 +4,24 @@ use mathlib.Core.List.{List, ◌++◌, append_assoc, append-nil}
 use Prim.Native.Nat.{ℕ, ◌+◌, ◌≤◌}
 use native.Mathlib.Nat.{zero-add}
 use native.Mathlib.Omega.{arith}
-use lib.ListN.{length, take, drop, replicate, length-append, length-drop}
-use lib.Seq.{length-take-le, get_or-take, get_or-drop, ext_get_or, take_all}
+use lib.ListN.{length, take, drop, length-append, length-drop}
+use lib.Seq.{length-take-le, get_or-take, get_or-drop, ext_get_or}
 use Rattle.meaning.specs.Bytes.{part_of, number, bytes4, words, splice, store}
 use Rattle.meaning.specs.Layout.{plain, embedded, identifier, Embedding, embedding_of, embedded_header, laid_out, lengthened}
 use Rattle.meaning.proofs.Numbers.{length-bytes4}
-use Rattle.meaning.proofs.Splices.{length_splice, take_written, splice_next, splice_front}
+use Rattle.meaning.proofs.Splices.{length_splice, splice_next, splice_front}
 use Rattle.meaning.proofs.Parts.{num_part}
 use Rattle.meaning.proofs.Layouts.{length_header}
 use Rattle.layout.specs.Layouts.{Around}
 
 -- THE EMBEDDING, read from the first bytes of a message
-pub format_read : (buf : List ℕ) → 32 ≤ length buf → splice (replicate 8 0) 0 (take 8 (drop 20 buf)) ≡ (embedding_of embedded (part_of buf 32)).format
+pub format_read : (buf : List ℕ) → 32 ≤ length buf → take 8 (drop 20 buf) ≡ (embedding_of embedded (part_of buf 32)).format
 unfolding embedding_of
 format_read buf h =
-    let x : List ℕ = take 8 (drop 20 buf) in
     let n : length (take 8 (drop 20 buf)) ≡ 8 = length-take-le 8 (drop 20 buf) (omega (arith, length-drop 20 buf)) in
     let m : length (take 8 (drop 20 (take 32 buf))) ≡ 8 =
     length-take-le 8 (drop 20 (take 32 buf)) (omega (arith, length-drop 20 (take 32 buf), length-take-le 32 buf h)) in
-    let k : length (splice (replicate 8 0) 0 (take 8 (drop 20 buf))) ≤ 8 = omega (arith, length_splice (replicate 8 0) 0 (take 8 (drop 20 buf)) (omega (arith, n))) in
-    sym (take_all 8 (splice (replicate 8 0) 0 (take 8 (drop 20 buf))) k) ∙ take_written (replicate 8 0) (take 8 (drop 20 buf)) 8 n (omega arith)
-    ∙ ext_get_or 0 (take 8 (drop 20 buf)) (take 8 (drop 20 (take 32 buf))) (n ∙ sym m) (λ i j.
+    ext_get_or 0 (take 8 (drop 20 buf)) (take 8 (drop 20 (take 32 buf))) (n ∙ sym m) (λ i j.
     get_or-take 8 (drop 20 buf) i 0 (omega arith) ∙ get_or-drop 20 buf i 0 ∙ sym (get_or-take 32 buf (20 + i) 0 (omega arith))
     ∙ sym (get_or-drop 20 (take 32 buf) i 0) ∙ sym (get_or-take 8 (drop 20 (take 32 buf)) i 0 (omega arith)))
 

@@ -2,26 +2,20 @@
 ghost use Rattle.std.specs.Prelude.{◌≡◌, ◌+◌, ◌≤◌, ◌<◌, length};
 ghost use Rattle.meaning.specs.Bytes.{part_of, splice};
 ghost use Rattle.meaning.specs.Layout.{embedded, start_of, no_embedding, embedding_of, embedded_header, laid_out_length, lengthened};
-ghost use Rattle.layout.specs.Layouts.{form_of, embedding_in, laid_of, fitting, Around};
+ghost use Rattle.refusals.specs.Refusals.{answer};
+ghost use Rattle.layout.specs.Layouts.{form_of, embedding_in, fitting, Around};
 
 use crate::part::{EMBEDDED_HEADER, Form, Layout, MOST_BYTES, STRUC_LENGTH};
 use refusals::Refusal;
 use wire::{copy, copy_to, number_at, put_number};
 
 // Encoding, CodedCharSetId, Format and Flags: what the sender says of the user data.
-#[derive(Clone, Copy)]
+#[derive(Clone, Copy, Debug, PartialEq, Eq)]
 pub struct Embedding {
     pub encoding: u32,
     pub ccsid: u32,
     pub format: [u8; 8],
     pub flags: u32,
-}
-
-// The length of a message that is to be laid out, or 12.
-#[derive(Clone, Copy)]
-pub enum Laid {
-    Length(usize),
-    Refused(Refusal),
 }
 
 // The eight bytes of Format.
@@ -30,7 +24,7 @@ fn format_of(msg: &[u8]) -> [u8; 8]
     ensures { result ≡ (embedding_of embedded (part_of msg.now 32)).format }
 {
     let mut format = [0u8; 8];
-    copy(&mut format, &msg[20..28]);
+    format.copy_from_slice(&msg[20..28]);
     format
 }
 
@@ -51,8 +45,7 @@ pub fn embedding_of(msg: &[u8], layout: Layout) -> Embedding
     requires { start_of (form_of layout.form) ≤ length msg.now }
     ensures { embedding_in result ≡ embedding_of (form_of layout.form) (part_of msg.now (start_of (form_of layout.form))) }
 {
-    let form = layout.form;
-    match form {
+    match layout.form {
         Form::Plain => no_embedding(),
         Form::Embedded => Embedding {
             encoding: number_at(msg, 12),
@@ -68,44 +61,34 @@ fn put_embedded_header(buf: &mut [u8], e: Embedding, end: u32)
     requires { 32 ≤ length buf.old }
     ensures { buf.new ≡ splice buf.old 0 (embedded_header (embedding_in e) end) }
 {
-    let format = e.format;
     copy(buf, b"EPH ");
     put_number(buf, 4, 1);
     put_number(buf, STRUC_LENGTH, end);
     put_number(buf, 12, e.encoding);
     put_number(buf, 16, e.ccsid);
-    copy_to(buf, 20, &format);
+    copy_to(buf, 20, &e.format);
     put_number(buf, 28, e.flags);
 }
 
 // The length of a message whose part has `size` bytes, with so many bytes of user data, where it is not above 65,536 or `room`.
-pub fn laid_out_length(layout: Layout, size: usize, user: usize, room: usize) -> Laid
+pub fn laid_out_length(
+    layout: Layout,
+    size: usize,
+    user: usize,
+    room: usize,
+) -> Result<usize, Refusal>
     requires { size ≤ 65500 }
-    ensures { laid_of result ≡ fitting (laid_out_length (form_of layout.form) user size) room }
+    ensures { answer result ≡ fitting (laid_out_length (form_of layout.form) user size) room }
 {
-    let form = layout.form;
-    match form {
-        Form::Plain => {
-            if room < size {
-                return Laid::Refused(Refusal::NoRoom);
-            }
-            Laid::Length(size)
-        }
-        Form::Embedded => {
-            // asked first, so that the sum does not run over
-            if MOST_BYTES < user {
-                return Laid::Refused(Refusal::NoRoom);
-            }
-            let n = EMBEDDED_HEADER + size + user;
-            if room < n {
-                return Laid::Refused(Refusal::NoRoom);
-            }
-            if MOST_BYTES < n {
-                return Laid::Refused(Refusal::NoRoom);
-            }
-            Laid::Length(n)
-        }
+    let length = match layout.form {
+        Form::Plain => size,
+        // saturating, so that the sum does not run over: the most that a usize has is above any room
+        Form::Embedded => (EMBEDDED_HEADER + size).saturating_add(user),
+    };
+    if room < length || MOST_BYTES < length {
+        return Err(Refusal::NoRoom);
     }
+    Ok(length)
 }
 
 // Writes what stands around a part of `size` bytes, and answers where the part is to start. A plain message has nothing there.
@@ -113,8 +96,7 @@ pub fn put_around(buf: &mut [u8], layout: Layout, e: Embedding, size: usize, use
     requires { (laid_out_length (form_of layout.form) (length user.now) size ≤ length buf.old) × (size ≤ 65500) }
     ensures { Around (form_of layout.form) (embedding_in e) size user.now buf.old buf.new result }
 {
-    let form = layout.form;
-    match form {
+    match layout.form {
         Form::Plain => 0,
         Form::Embedded => {
             let end = EMBEDDED_HEADER + size;
@@ -130,9 +112,7 @@ pub fn lengthen(buf: &mut [u8], layout: Layout, end: usize, by: usize)
     requires { (start_of (form_of layout.form) ≤ length buf.old) × (end + by < 4294967296) }
     ensures { buf.new ≡ lengthened (form_of layout.form) (part_of buf.old end) by buf.old }
 {
-    let form = layout.form;
-    match form {
-        Form::Plain => {}
-        Form::Embedded => put_number(buf, STRUC_LENGTH, (end + by) as u32),
+    if let Form::Embedded = layout.form {
+        put_number(buf, STRUC_LENGTH, (end + by) as u32);
     }
 }
