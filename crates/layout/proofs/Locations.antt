@@ -5,7 +5,6 @@ use mathlib.Core.List.{List}
 use Prim.Native.Nat.{ℕ, ◌+◌, ◌≤◌}
 use native.Mathlib.Omega.{arith}
 use lib.ListN.{length, take}
-use lib.Seq.{length-take-le}
 use lib.Dec.{leb}
 use borrow.Author.Tests.{leb-true}
 use Rattle.meaning.specs.Bytes.{whole, part_of, number, num}
@@ -15,6 +14,7 @@ use Rattle.meaning.specs.Layout.{embedded, start_of, embedded_ok, length_ok, loc
 use Rattle.meaning.proofs.Tests.{and_true}
 use Rattle.meaning.proofs.Parts.{num_part}
 use Rattle.meaning.proofs.Layouts.{plain_ok}
+use Rattle.wire.proofs.Parts.{whole-take}
 use Rattle.layout.specs.Layouts.{form_of, layout_of, part_at}
 use Rattle.layout.specs.declared.part.Form.{Form}
 use Rattle.layout.specs.declared.part.Form.TheVariants.{Plain, Embedded}
@@ -46,7 +46,7 @@ module _ (l : Layout) (buf : List ℕ) (len start : ℕ) (starts : start ≡ sta
 
       -- the whole message is what is tested
       lent : whole (take len buf) ≡ part_of buf len
-      lent = rw (length-take-le len buf headers.1) refl
+      lent = whole-take buf len headers.1
 
       pub unsound : embedded_ok embedded (whole (take len buf)) ≡ false → refused bad_embedded_header 0 ≡ located (layout_of l) buf len
       unfolding located

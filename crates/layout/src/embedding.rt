@@ -7,7 +7,7 @@ ghost use Rattle.layout.specs.Layouts.{form_of, embedding_in, fitting, Around};
 
 use crate::part::{EMBEDDED_HEADER, Form, Layout, MOST_BYTES, STRUC_LENGTH};
 use refusals::Refusal;
-use wire::{copy, copy_to, number_at, put_number};
+use wire::{copy_to, number_at, put_number};
 
 // Encoding, CodedCharSetId, Format and Flags: what the sender says of the user data.
 #[derive(Clone, Copy, Debug, PartialEq, Eq)]
@@ -61,7 +61,7 @@ fn put_embedded_header(buf: &mut [u8], e: Embedding, end: u32)
     requires { 32 ≤ length buf.old }
     ensures { buf.new ≡ splice buf.old 0 (embedded_header (embedding_in e) end) }
 {
-    copy(buf, b"EPH ");
+    copy_to(buf, 0, b"EPH ");
     put_number(buf, 4, 1);
     put_number(buf, STRUC_LENGTH, end);
     put_number(buf, 12, e.encoding);
@@ -82,7 +82,7 @@ pub fn laid_out_length(
 {
     let length = match layout.form {
         Form::Plain => size,
-        // saturating, so that the sum does not run over: the most that a usize has is above any room
+        // saturating, so that the sum does not run over: the most that a usize has is above 65,536
         Form::Embedded => (EMBEDDED_HEADER + size).saturating_add(user),
     };
     if room < length || MOST_BYTES < length {
