@@ -38,14 +38,14 @@ pub further : (a b c : Bool) → a && (b && c) ≡ (a && b) && c
 further true b c = refl
 further false b c = refl
 
-further_three : (a b c d e : Bool) → a && (b && (c && (d && e))) ≡ (a && (b && (c && d))) && e
+further_three : (a b c d e : Bool) → a && (b && (c && (d && e))) ≡ (a && ((b && c) && d)) && e
 further_three true true true d e = refl
 further_three true true false d e = refl
 further_three true false c d e = refl
 further_three false b c d e = refl
 
 pub identifiers_further : (a : Bool) (l : List ℕ) (k : ℕ) (b : Bool) → k < length l → b ≡ absent (get_or l k 0) (drop (k + 1) l)
-    → (a && identifiers_ok (drop k l)) ≡ ((a && (leb 1 (get_or l k 0) && (small (get_or l k 0) && b))) && identifiers_ok (drop (k + 1) l))
+    → (a && identifiers_ok (drop k l)) ≡ ((a && ((leb 1 (get_or l k 0) && small (get_or l k 0)) && b)) && identifiers_ok (drop (k + 1) l))
 identifiers_further a l k b h e =
     ap (λ (t : Bool). a && t) (identifiers_next l k h)
     ∙ rw (sym e) (further_three a (leb 1 (get_or l k 0)) (small (get_or l k 0)) b (identifiers_ok (drop (k + 1) l)))

@@ -1,19 +1,14 @@
 -- Laws of tests that are taken together.
 use mathlib.Core.Path.{◌≡◌, refl}
-use mathlib.Core.Bool.{Bool, true, false, not, ◌&&◌, ◌||◌}
-use Rattle.meaning.specs.Answer.{when}
+use mathlib.Core.Bool.{Bool, true, false, ◌&&◌}
 
--- four tests in a group of their own
-pub four_first : (b c d e f : Bool) → (b && (c && (d && e))) && f ≡ b && (c && (d && (e && f)))
-four_first true true true e f = refl
-four_first true true false e f = refl
-four_first true false d e f = refl
-four_first false c d e f = refl
-
--- what is open where s does not hold and y has not decided: the chain by s and y is the chain of three tests
-pub still_open : {A : Type 0} (s d y u f : Bool) (r₁ r₂ r₃ r₀ : A)
-    → when (not s && d) r₁ (when (not s && y) r₀ (when u r₂ (when (not s && f) r₃ r₀)))
-    ≡ when (not s && d) r₁ (when ((s || not y) && u) r₂ (when (((s || not y) && not s) && f) r₃ r₀))
-still_open true d y u f r₁ r₂ r₃ r₀ = refl
-still_open false d true u f r₁ r₂ r₃ r₀ = refl
-still_open false d false u f r₁ r₂ r₃ r₀ = refl
+-- a test, four tests in a group of their own, and three more: one after the other
+pub one_by_one : (d r u c m a f e : Bool) → (((d && (((r && u) && c) && m)) && a) && f) && e ≡ d && (r && (u && (c && (m && (a && (f && e))))))
+one_by_one true true true true true true true e = refl
+one_by_one true true true true true true false e = refl
+one_by_one true true true true true false f e = refl
+one_by_one true true true true false a f e = refl
+one_by_one true true true false m a f e = refl
+one_by_one true true false c m a f e = refl
+one_by_one true false u c m a f e = refl
+one_by_one false r u c m a f e = refl

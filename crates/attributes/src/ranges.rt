@@ -29,7 +29,7 @@ fn one_bit(x: u32, first: u32, second: u32) -> bool
 fn one_of_three(x: u32, a: u32, b: u32, c: u32) -> bool
     ensures { result ≡ (eqb x a || (eqb x b || eqb x c)) }
 {
-    (x == a) | ((x == b) | (x == c))
+    x == a || x == b || x == c
 }
 
 fn is_small(x: u32) -> bool
@@ -39,7 +39,8 @@ fn is_small(x: u32) -> bool
 }
 
 // The eight values are each in range: Detail is low, medium or high; the counters and MaxActivities are small; Accumulate is
-// none, in the message, or in the message with reply; Forward is all or if supported; Deliver is yes or no.
+// none, in the message, or in the message with reply; Forward is all or if supported; Deliver is yes or no. All tests are made:
+// nearly every trace passes them all, and so there is no branch between two of them.
 pub fn in_range(v: [u32; 8]) -> bool
     ensures { result ≡ in_range v }
 {
@@ -50,8 +51,9 @@ pub fn in_range(v: [u32; 8]) -> bool
         MQROUTE_DETAIL_HIGH,
     );
     let counters = is_small(v[RECORDED_ACTIVITIES])
-        & (is_small(v[UNRECORDED_ACTIVITIES])
-            & (is_small(v[DISCONTINUITY_COUNT]) & is_small(v[MAX_ACTIVITIES])));
+        & is_small(v[UNRECORDED_ACTIVITIES])
+        & is_small(v[DISCONTINUITY_COUNT])
+        & is_small(v[MAX_ACTIVITIES]);
     let accumulate = one_of_three(
         v[ACCUMULATE],
         MQROUTE_ACCUMULATE_NONE,
@@ -64,5 +66,5 @@ pub fn in_range(v: [u32; 8]) -> bool
         MQROUTE_FORWARD_IF_SUPPORTED,
     );
     let deliver = one_bit(v[DELIVER], MQROUTE_DELIVER_YES, MQROUTE_DELIVER_NO);
-    detail & (counters & (accumulate & (forward & deliver)))
+    detail & counters & accumulate & forward & deliver
 }

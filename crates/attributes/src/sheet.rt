@@ -11,11 +11,9 @@ fn alone(sheet: [u32; 8], i: usize) -> bool
     ensures { result ≡ absent (get_or sheet i 0) (drop (i + 1) sheet) }
 {
     let x = sheet[i];
-    let mut k = i + 1;
     let mut lone = true;
-    while k < 8 {
-        lone = lone & (x != sheet[k]);
-        k += 1;
+    for k in i + 1..8 {
+        lone &= x != sheet[k];
     }
     lone
 }
@@ -24,12 +22,10 @@ fn alone(sheet: [u32; 8], i: usize) -> bool
 pub fn sheet_ok(sheet: [u32; 8]) -> bool
     ensures { result ≡ sheet_ok sheet }
 {
-    let mut i = 0;
     let mut sound = true;
-    while i < 8 {
+    for i in 0..8 {
         let x = sheet[i];
-        sound = sound & ((1 <= x) & ((x < TWO_TO_31) & alone(sheet, i)));
-        i += 1;
+        sound &= (1 <= x) & (x < TWO_TO_31) & alone(sheet, i);
     }
     sound
 }

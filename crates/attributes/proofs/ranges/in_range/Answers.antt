@@ -1,10 +1,8 @@
 -- `ranges::in_range` meets its contract: the same tests, taken together in another order.
-use Rattle.std.proofs.Common.{Bool, ap}
-use mathlib.Core.Bool.{◌&&◌}
-use Rattle.meaning.specs.Names.{Detail, RecordedActivities, UnrecordedActivities, DiscontinuityCount, MaxActivities}
+use Rattle.meaning.specs.Names.{RecordedActivities, UnrecordedActivities, DiscontinuityCount, MaxActivities}
 use Rattle.meaning.specs.Structure.{small}
 use Rattle.meaning.specs.Trace.{value, detail_ok, accumulate_ok, forward_ok, deliver_ok, in_range}
-use Rattle.attributes.proofs.Tests.{four_first}
+use Rattle.attributes.proofs.Tests.{one_by_one}
 use Rattle.attributes.proofs.ranges.in_range.Goals as goal
 
 pub returns : goal.returns
@@ -20,4 +18,4 @@ returns c =
       c.is_small-2.ensures,
       c.is_small.ensures,
       c.one_of_three-detail.ensures,
-    ) (ap (λ (t : Bool). detail_ok (value v Detail) && t) (four_first (small (value v RecordedActivities)) (small (value v UnrecordedActivities)) (small (value v DiscontinuityCount)) (small (value v MaxActivities)) _))
+    ) (one_by_one _ (small (value v RecordedActivities)) (small (value v UnrecordedActivities)) (small (value v DiscontinuityCount)) (small (value v MaxActivities)) _ _ _)

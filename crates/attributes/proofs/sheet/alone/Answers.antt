@@ -7,9 +7,9 @@ use Rattle.attributes.proofs.sheet.alone.Goals as goal
 pub loop-k-preserved : goal.loop-k-preserved
 loop-k-preserved c =
     let l = c.loop-k in
-    (omega arith, l.invariant.1 ∙ ap (λ (t : Bool). l.lone && t) (absent_next _ c.args.sheet l.k (omega arith)) ∙ further l.lone _ _)
+    l.invariant ∙ ap (λ (t : Bool). l.lone && t) (absent_next _ c.args.sheet l.k (omega arith)) ∙ further l.lone _ _
 
 pub returns : goal.returns
 returns c =
     let l = c.loop-k in
-    sym (l.invariant.1 ∙ ap (λ (t : Bool). l.lone && t) (absent_none _ c.args.sheet l.k (omega arith)) ∙ no_further l.lone)
+    sym (l.invariant ∙ ap (λ (t : Bool). l.lone && t) (absent_none _ c.args.sheet l.k (omega arith)) ∙ no_further l.lone)
