@@ -40,10 +40,12 @@ pub fn rule_of(kind: u32) -> Rule
         6 => Rule::Strings,
         // byte string
         9 => Rule::Data(12),
-        // filters: integer, string, byte
-        13 => Rule::Exact(20),
-        14 => Rule::Data(20),
-        15 => Rule::Data(16),
+        // filters, which the rules give as one range: integer, string, byte
+        13..=15 => match kind {
+            13 => Rule::Exact(20),
+            14 => Rule::Data(20),
+            _ => Rule::Data(16),
+        },
         // group
         20 => Rule::Group,
         // 64-bit integer
