@@ -1,5 +1,6 @@
 // The lines of a listing as text. Each writer puts its text into the lent bytes from a place on, leaves every other byte as it
-// was, and answers the place behind the text.
+// was, and answers the place behind the text. Buffer and place stay two parameters: of a struct that holds both, what comes back
+// to the lender has no name that a proof could cite.
 #![tactic(auto)]
 
 ghost use Rattle.std.specs.Prelude.{◌≡◌, ◌∷◌, [], ◌<◌, length};
