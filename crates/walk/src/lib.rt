@@ -5,4 +5,4 @@ mod passing;
 mod tallying;
 
 pub use passing::{Passed, over};
-pub use tallying::{Ended, Walked, siblings};
+pub use tallying::{Walked, siblings};

@@ -1,7 +1,7 @@
 -- The invariant: what the walk from here comes to, with the structures so far, is what the whole walk comes to, and these are
--- no more than the place. It ends because the loop's count falls, and because no group is deeper than 8.
+-- no more than the place. The recursion ends because no group is deeper than 8.
 use Rattle.std.proofs.Common.{◌≡◌, ◌-◌, ◌≤◌}
-use Rattle.meaning.specs.Bytes.{part_of}
+use Rattle.meaning.specs.Bytes.{whole}
 use Rattle.meaning.specs.Walk.{walk}
 use Rattle.walk.specs.Passings.{passage}
 use Rattle.walk.proofs.Numbering.{numbered}
@@ -11,9 +11,7 @@ use Rattle.walk.proofs.passing.+over.Given as goal
 abbrev pub decreases-over : goal.decreases-over
 decreases-over l = 9 - l.depth
 
-abbrev pub invariant-loop-left : goal.invariant-loop-left
-invariant-loop-left l =
-    (passage (walk (part_of l.s l.end) l.place l.depth l.count) ≡ numbered l.n (walk (part_of l.s l.end) l.at l.depth l.left)) × (l.n ≤ l.at)
-
-abbrev pub decreases-loop-left : goal.decreases-loop-left
-decreases-loop-left l = l.left
+abbrev pub invariant-loop : goal.invariant-loop
+invariant-loop l =
+    (passage (walk (whole l.s) l.place l.depth l.count) ≡ numbered l.number (walk (whole l.s) l.behind l.depth (l.count - l.counter)))
+    × (l.number ≤ l.behind)

@@ -1,90 +1,93 @@
 -- Where a structure was found, `Reaches` says how far it reaches and what type it has: there are 27 types, the place behind it
 -- is at most 65,536, and with the structure counted no count is above that place.
-use Rattle.std.proofs.Common.{◌≡◌, ◌∙◌, ◌+◌, sym, arith}
-use Rattle.meaning.specs.Bytes.{part_of}
+use Rattle.std.proofs.Common.{◌≡◌, ◌∙◌, ◌+◌, ◌-◌, sym, arith}
+use Rattle.meaning.specs.Bytes.{whole}
 use Rattle.structure.proofs.Extents.{Reaches, reaches, reaches_none, reach_fits, reach_least, reach_type, reach_shallow, reach_kind}
 use Rattle.walk.specs.Tallies.{raised, Low}
-use Rattle.walk.proofs.Answers.{ended_as}
-use Rattle.walk.proofs.Counts.{raised_low, came_low, turn_none, turn_refused, turn_on, turn_halt, turn_plain}
+use Rattle.walk.proofs.Answers.{given_on}
+use Rattle.walk.proofs.Counts.{told, halted, raised_low, came_low, turn_none, turn_refused, turn_on, turn_halt, turn_plain}
 use Rattle.walk.proofs.tallying.+siblings.Goals as goal
-use Rattle.walk.proofs.tallying.+siblings.Goals.{then-members-ne0+in-Behind, else-members-ne0}
+use Rattle.walk.proofs.tallying.+siblings.Goals.{then-members-ne0+in_ok-inner, else-members-ne0}
 
 -- a structure is refused
-pub returns-in-Refused : goal.returns-in-Refused
-returns-in-Refused t c =
-    c.stopped.ensures ∙ sym (c.loop-left.invariant.0 ∙ turn_refused _ _ _ _ _ c.loop-left-test.true _ _ (reaches_none c.extent_at-found.ensures c.in-Refused.is))
+pub returns-in_err-size : goal.returns-in_err-size
+returns-in_err-size t c =
+    let due : c.args.count - c.loop.counter ≡ c.args.count - (c.loop.counter + 1) + 1 = omega (arith, c.loop-test.true) in
+    rw (given_on _ _ c.from_residual.ensures.1)
+    (sym (c.loop.invariant.0 ∙ turn_refused _ _ _ _ _ _ due _ _ (reaches_none c.in_err-size.ensures)))
 
 -- its Type is there to be read
 pub number_at-kind-requires : goal.number_at-kind-requires
 number_at-kind-requires t c =
-    let r : Reaches (part_of c.args.s.now c.args.end) c.loop-left.at c.args.depth c.in-Sound.size c.in-Sound.members = reaches _ _ _ c.extent_at-found.ensures c.in-Sound.is in
-    omega (arith, reach_fits r, reach_least r, c.requires.there)
+    let r : Reaches (whole c.args.s.now) c.loop.behind c.args.depth c.in_ok-size.field-0.size c.in_ok-size.field-0.members = reaches c.in_ok-size.ensures in
+    omega (arith, reach_fits r, reach_least r)
 
 -- the count of its type: its index, and that one more fits
-pub bounds-t-kind : goal.bounds-t-kind
-bounds-t-kind t c =
-    let r : Reaches (part_of c.args.s.now c.args.end) c.loop-left.at c.args.depth c.in-Sound.size c.in-Sound.members = reaches _ _ _ c.extent_at-found.ensures c.in-Sound.is in
-    let k : c.number_at-kind.result ≡ r.row.kind = reach_kind _ _ _ _ _ _ r _ c.number_at-kind.ensures in
+pub bounds-tally-kind : goal.bounds-tally-kind
+bounds-tally-kind t c =
+    let r : Reaches (whole c.args.s.now) c.loop.behind c.args.depth c.in_ok-size.field-0.size c.in_ok-size.field-0.members = reaches c.in_ok-size.ensures in
+    let k : c.number_at-kind.result ≡ r.row.kind = reach_kind _ _ _ _ _ r _ c.number_at-kind.ensures in
     omega (arith, k, reach_type r)
 
-pub overflow_add-t : goal.overflow_add-t
-overflow_add-t t c =
-    let r : Reaches (part_of c.args.s.now c.args.end) c.loop-left.at c.args.depth c.in-Sound.size c.in-Sound.members = reaches _ _ _ c.extent_at-found.ensures c.in-Sound.is in
-    omega (arith, reach_fits r, reach_least r, c.requires.most, c.loop-left.invariant.1 c.number_at-kind.result)
+pub overflow_add-tally : goal.overflow_add-tally
+overflow_add-tally t c =
+    let r : Reaches (whole c.args.s.now) c.loop.behind c.args.depth c.in_ok-size.field-0.size c.in_ok-size.field-0.members = reaches c.in_ok-size.ensures in
+    omega (arith, reach_fits r, reach_least r, c.requires.most, c.loop.invariant.1 c.number_at-kind.result)
 
-pub bounds-t-kind-in-Sound : goal.bounds-t-kind-in-Sound
-bounds-t-kind-in-Sound t c =
-    let r : Reaches (part_of c.args.s.now c.args.end) c.loop-left.at c.args.depth c.in-Sound.size c.in-Sound.members = reaches _ _ _ c.extent_at-found.ensures c.in-Sound.is in
-    let k : c.number_at-kind.result ≡ r.row.kind = reach_kind _ _ _ _ _ _ r _ c.number_at-kind.ensures in
+pub bounds-tally-kind-in-loop : goal.bounds-tally-kind-in-loop
+bounds-tally-kind-in-loop t c =
+    let r : Reaches (whole c.args.s.now) c.loop.behind c.args.depth c.in_ok-size.field-0.size c.in_ok-size.field-0.members = reaches c.in_ok-size.ensures in
+    let k : c.number_at-kind.result ≡ r.row.kind = reach_kind _ _ _ _ _ r _ c.number_at-kind.ensures in
     omega (arith, k, reach_type r)
 
 -- the next place
-pub overflow_add-at : goal.overflow_add-at
-overflow_add-at t c =
-    let r : Reaches (part_of c.args.s.now c.args.end) c.loop-left.at c.args.depth c.in-Sound.size c.in-Sound.members = reaches _ _ _ c.extent_at-found.ensures c.in-Sound.is in
+pub overflow_add-behind : goal.overflow_add-behind
+overflow_add-behind t c =
+    let r : Reaches (whole c.args.s.now) c.loop.behind c.args.depth c.in_ok-size.field-0.size c.in_ok-size.field-0.members = reaches c.in_ok-size.ensures in
     omega (arith, reach_fits r, c.requires.most)
 
 -- the members of a group
 pub overflow_add-depth : goal.overflow_add-depth
 overflow_add-depth t c =
-    let r : Reaches (part_of c.args.s.now c.args.end) c.loop-left.at c.args.depth c.in-Sound.size c.in-Sound.members = reaches _ _ _ c.extent_at-found.ensures c.in-Sound.is in
+    let r : Reaches (whole c.args.s.now) c.loop.behind c.args.depth c.in_ok-size.field-0.size c.in_ok-size.field-0.members = reaches c.in_ok-size.ensures in
     omega (arith, reach_shallow r c.if-members-ne0.true)
 
-pub siblings-inner-requires : goal.siblings-inner-requires
+pub siblings-requires : goal.siblings-requires
 unfolding raised
-siblings-inner-requires t c =
-    let r : Reaches (part_of c.args.s.now c.args.end) c.loop-left.at c.args.depth c.in-Sound.size c.in-Sound.members = reaches _ _ _ c.extent_at-found.ensures c.in-Sound.is in
-    let k : c.number_at-kind.result ≡ r.row.kind = reach_kind _ _ _ _ _ _ r _ c.number_at-kind.ensures in
-    let low : Low (raised c.loop-left.t c.number_at-kind.result) (c.loop-left.at + c.in-Sound.size) = raised_low _ _ _ _ _ _ r k c.loop-left.t c.loop-left.invariant.1 in
-    (omega (arith, c.decreases, reach_shallow r c.if-members-ne0.true), record { there = c.requires.there; most = c.requires.most; low = low })
+siblings-requires t c =
+    let r : Reaches (whole c.args.s.now) c.loop.behind c.args.depth c.in_ok-size.field-0.size c.in_ok-size.field-0.members = reaches c.in_ok-size.ensures in
+    let k : c.number_at-kind.result ≡ r.row.kind = reach_kind _ _ _ _ _ r _ c.number_at-kind.ensures in
+    let low : Low (raised c.loop.tally c.number_at-kind.result) (c.loop.behind + c.in_ok-size.field-0.size) = raised_low _ _ _ _ _ _ r k c.loop.tally c.loop.invariant.1 in
+    (omega (arith, c.decreases, reach_shallow r c.if-members-ne0.true), record { most = c.requires.most; low = low })
 
 -- the walk inside met a fault
-pub returns-in-Refused-ended : goal.returns-in-Refused-ended
+pub returns-in_err-inner : goal.returns-in_err-inner
 unfolding raised
-returns-in-Refused-ended t c =
-    let r : Reaches (part_of c.args.s.now c.args.end) c.loop-left.at c.args.depth c.in-Sound.size c.in-Sound.members = reaches _ _ _ c.extent_at-found.ensures c.in-Sound.is in
-    let k : c.number_at-kind.result ≡ r.row.kind = reach_kind _ _ _ _ _ _ r _ c.number_at-kind.ensures in
-    c.stopped-in-Refused-ended.ensures
-    ∙ sym (c.loop-left.invariant.0 ∙ turn_halt _ _ _ _ _ c.loop-left-test.true _ _ _ r k _ _ _ (ended_as c.siblings-inner.ensures c.in-Refused-ended.is))
+returns-in_err-inner t c =
+    let r : Reaches (whole c.args.s.now) c.loop.behind c.args.depth c.in_ok-size.field-0.size c.in_ok-size.field-0.members = reaches c.in_ok-size.ensures in
+    let k : c.number_at-kind.result ≡ r.row.kind = reach_kind _ _ _ _ _ r _ c.number_at-kind.ensures in
+    let due : c.args.count - c.loop.counter ≡ c.args.count - (c.loop.counter + 1) + 1 = omega (arith, c.loop-test.true) in
+    rw (given_on _ _ c.from_residual-in_err-inner.ensures.1)
+    (sym (c.loop.invariant.0 ∙ turn_halt _ _ _ _ _ _ due _ _ _ r k _ _ (halted _ c.in_err-inner.ensures)))
 
 -- the next turn, after the members of a group, or after a structure with nothing inside
-pub loop-left-preserved : goal.loop-left-preserved
+pub loop-preserved : goal.loop-preserved
 unfolding raised
-loop-left-preserved t c =
-    let r : Reaches (part_of c.args.s.now c.args.end) c.loop-left.at c.args.depth c.in-Sound.size c.in-Sound.members = reaches _ _ _ c.extent_at-found.ensures c.in-Sound.is in
-    let k : c.number_at-kind.result ≡ r.row.kind = reach_kind _ _ _ _ _ _ r _ c.number_at-kind.ensures in
-    let low : Low (raised c.loop-left.t c.number_at-kind.result) (c.loop-left.at + c.in-Sound.size) = raised_low _ _ _ _ _ _ r k c.loop-left.t c.loop-left.invariant.1 in
-    let due = c.loop-left-test.true in
-    let on = c.loop-left.invariant.0 in
+loop-preserved t c =
+    let r : Reaches (whole c.args.s.now) c.loop.behind c.args.depth c.in_ok-size.field-0.size c.in_ok-size.field-0.members = reaches c.in_ok-size.ensures in
+    let k : c.number_at-kind.result ≡ r.row.kind = reach_kind _ _ _ _ _ r _ c.number_at-kind.ensures in
+    let low : Low (raised c.loop.tally c.number_at-kind.result) (c.loop.behind + c.in_ok-size.field-0.size) = raised_low _ _ _ _ _ _ r k c.loop.tally c.loop.invariant.1 in
+    let due : c.args.count - c.loop.counter ≡ c.args.count - (c.loop.counter + 1) + 1 = omega (arith, c.loop-test.true) in
+    let on = c.loop.invariant.0 in
     elim c.if-members-ne0.branch [
-      | then-members-ne0+in-Behind w ↦
-          let e = ended_as w.siblings-inner.ensures w.in-Behind.is in (
-            rw (w.at-is, w.t-is) (on ∙ turn_on _ _ _ _ _ due _ _ _ r k _ _ e),
-            rw (w.at-is, w.t-is) (came_low _ _ _ _ _ _ _ e low),
+      | then-members-ne0+in_ok-inner w ↦
+          let e = told w.in_ok-inner.ensures in (
+            rw (w.behind-is, w.tally-is) (on ∙ turn_on _ _ _ _ _ _ due _ _ _ r k _ _ e),
+            rw (w.behind-is, w.tally-is) (came_low _ _ _ _ _ _ _ e low),
           )
       | else-members-ne0 w ↦ (
-        rw (w.at-is, w.t-is) (on ∙ turn_plain _ _ _ _ _ due _ _ _ r k w.if-members-ne0.false),
-        rw (w.at-is, w.t-is) low,
+        rw (w.behind-is, w.tally-is) (on ∙ turn_plain _ _ _ _ _ _ due _ _ _ r k w.if-members-ne0.false),
+        rw (w.behind-is, w.tally-is) low,
       )
     ]
 
@@ -92,5 +95,5 @@ loop-left-preserved t c =
 pub returns : goal.returns
 returns t c =
     let a = c.args in
-    let z : c.loop-left.left ≡ 0 = omega (arith, c.loop-left-test.false) in
-    sym (c.loop-left.invariant.0 ∙ rw z (sym (turn_none (part_of a.s.now a.end) c.loop-left.at a.depth c.loop-left.t)))
+    let none : a.count - c.loop.counter ≡ 0 = omega (arith, c.loop-test.false) in
+    sym (c.loop.invariant.0 ∙ sym (turn_none (whole a.s.now) c.loop.behind a.depth _ c.loop.tally none))
