@@ -3,14 +3,15 @@
 // listing's text.)
 #![tactic(auto)]
 
-ghost use Rattle.std.specs.Prelude.{◌≡◌, ◌∷◌, [], ◌+◌, ◌≤◌, ◌/◌, ◌%◌, length, get_or, take, drop};
+ghost use Rattle.std.specs.Prelude.{◌≡◌, ◌+◌, ◌≤◌, length, get_or, take, drop};
 ghost use Rattle.meaning.specs.Bytes.{number, bytes4, splice};
 ghost use Rattle.wire.specs.LeastFirst.{LeastFirst};
 
 // The four bytes at `at` as a number, least significant first. The compiler makes one read of a word of this sum before it
 // decides what is compiled into what; of the same sum with the most significant byte first it makes four until then, and what
 // reads many numbers would no longer be compiled into its callers.
-// It has no local and calls nothing, for hosts with little stack.
+// It has no local and calls nothing, for hosts with little stack: so `as` stands here, and neither `u32::from` nor
+// `u32::from_be_bytes`, which are calls (tests/inlined holds it to that).
 fn four_at(s: &[u8], at: usize) -> u32
     requires { at + 4 ≤ length s.now }
     ensures { LeastFirst result (get_or s.now at 0) (get_or s.now (at + 1) 0) (get_or s.now (at + 2) 0) (get_or s.now (at + 3) 0) }
