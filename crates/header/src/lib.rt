@@ -14,10 +14,12 @@ pub enum Kind {
     Report,
 }
 
-// The nine fields of each: Type, StrucLength, Version, Command, MsgSeqNumber, Control, CompCode, Reason, ParameterCount.
-const TRACE: [u32; 9] = [10, 36, 3, 75, 1, 1, 0, 0, 1];
-
-const REPORT: [u32; 9] = [12, 36, 3, 69, 1, 1, 0, 0, 1];
+// The table of header fields, a row for each kind: Type, StrucLength, Version, Command, MsgSeqNumber, Control, CompCode, Reason,
+// ParameterCount.
+const FIELDS: [[u32; 9]; 2] = [
+    [10, 36, 3, 75, 1, 1, 0, 0, 1],
+    [12, 36, 3, 69, 1, 1, 0, 0, 1],
+];
 
 fn field(kind: Kind, i: usize) -> u32
     requires { i < 9 }
@@ -25,8 +27,8 @@ fn field(kind: Kind, i: usize) -> u32
 {
     // by case, so that a known field of a known header is a constant
     match kind {
-        Kind::Trace => TRACE[i],
-        Kind::Report => REPORT[i],
+        Kind::Trace => FIELDS[0][i],
+        Kind::Report => FIELDS[1][i],
     }
 }
 
