@@ -12,8 +12,7 @@ use Rattle.meaning.specs.Layout.{Embedding, no_embedding, laid_out}
 use Rattle.meaning.specs.Trace.{Terms, sheet_ok, in_range}
 use Rattle.meaning.specs.Compose.{composed, composed_message, message_length, values_ok, compose_answer, composed_buffer, Composed, compose}
 use Rattle.layout.specs.Layouts.{fitting}
-use Rattle.attributes.specs.Terms.{terms_of}
-use Rattle.compose.specs.Composes.{plain_layout}
+use Rattle.compose.specs.Composes.{plain_terms}
 
 abbrev pub compose_ends : Result ℕ → List ℕ → Composed
 compose_ends r buf = record { answer = r; buffer = buf }
@@ -47,10 +46,10 @@ module _ (tm : Terms) (v : List ℕ) (e : Embedding) (user buf : List ℕ) where
 
 -- A PLAIN MESSAGE is its part
 module _ (sheet v : List ℕ) (buf : List ℕ) (ok : sheet_ok sheet ≡ true) (eight : length v ≡ 8) (range : in_range v ≡ true) where
-  pub no_room_holds : length buf < 180 → compose_ends (refused no_room 0) buf ≡ compose (terms_of plain_layout sheet) v no_embedding [] buf
-  no_room_holds h = by_room (terms_of plain_layout sheet) v no_embedding [] buf ok eight range (refused no_room 0) (rw (lt-leb 180 (length buf) h) refl)
+  pub no_room_holds : length buf < 180 → compose_ends (refused no_room 0) buf ≡ compose (plain_terms sheet) v no_embedding [] buf
+  no_room_holds h = by_room (plain_terms sheet) v no_embedding [] buf ok eight range (refused no_room 0) (rw (lt-leb 180 (length buf) h) refl)
 
   pub written_plain : 180 ≤ length buf → (b : List ℕ) → b ≡ splice buf 0 (composed sheet v)
-      → compose_ends (accepted 180) b ≡ compose (terms_of plain_layout sheet) v no_embedding [] buf
+      → compose_ends (accepted 180) b ≡ compose (plain_terms sheet) v no_embedding [] buf
   unfolding laid_out
-  written_plain h b w = written (terms_of plain_layout sheet) v no_embedding [] buf ok eight range 180 (rw (le-leb 180 (length buf) h) refl) b w
+  written_plain h b w = written (plain_terms sheet) v no_embedding [] buf ok eight range 180 (rw (le-leb 180 (length buf) h) refl) b w
