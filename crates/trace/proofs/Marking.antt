@@ -8,7 +8,7 @@ use lib.ListN.{length, get_or, drop, length-map}
 use lib.Seq.{ext_get_or}
 use lib.Dec.{ltb, eqb}
 use borrow.Author.Tests.{lt-ltb, le-ltb, ne_eqb}
-use Rattle.meaning.specs.Bytes.{Part, part_of, number}
+use Rattle.meaning.specs.Bytes.{Part, whole, number}
 use Rattle.meaning.specs.Names.{MQCFT_INTEGER}
 use Rattle.meaning.specs.Answer.{Result, accepted, refused, and_then, cons_if}
 use Rattle.meaning.specs.Structure.{Row}
@@ -18,37 +18,19 @@ use Rattle.meaning.proofs.Tests.{clash, and_true}
 use Rattle.meaning.proofs.Structures.{row_at_lem}
 use Rattle.meaning.proofs.Walks.{walks, walks_depth, In, here, there}
 use Rattle.meaning.proofs.Fuel.{walk_zero}
-use Rattle.meaning.proofs.Parts.{num_part, row_kind, row_parameter}
 use Rattle.meaning.proofs.Attributes.{get_d_map, once_at}
 use Rattle.meaning.proofs.Tops.{direct_next}
 use Rattle.trace.specs.Passing.{crossed, behind_of}
-use Rattle.trace.specs.Marks.{onto, noted, noted_in, mark_from, Marked, all_found, InReach}
-use Rattle.meaning.proofs.Lists.{rest_none, rest_next}
+use Rattle.trace.specs.Marks.{onto, noted, noted_in, mark_from, Marked, all_found}
 use Rattle.trace.proofs.Turns.{Over, walk_over}
 use Rattle.trace.proofs.Skipping.{behind_over}
 
--- ALL FOUND, one mark after the other
-pub found_none : (l : List ℕ) (k : ℕ) → length l ≤ k → all_found (drop k l) ≡ true
-unfolding all_found
-found_none l k h = ap all_found (rest_none l k h)
-
-module _ (l : List ℕ) (k : ℕ) (h : k < length l) where
-  pub found_stop : get_or l k 0 ≤ 1 → all_found (drop k l) ≡ false
-  unfolding all_found
-  found_stop e = ap all_found (rest_next l k h) ∙ rw (le-ltb 1 (get_or l k 0) e) refl
-
-  pub found_next : 1 < get_or l k 0 → all_found (drop k l) ≡ all_found (drop (k + 1) l)
-  unfolding all_found
-  found_next e = ap all_found (rest_next l k h) ∙ rw (lt-ltb 1 (get_or l k 0) e) refl
-
 -- THE VALUES that were read
-pub values_read : (msg : List ℕ) (len : ℕ) (places v : List ℕ) → length places ≡ 8 → length v ≡ 8 → InReach len places
-    → ((j : ℕ) → j < 8 → get_or v j 0 ≡ number msg (get_or places j 0 + 12)) → v ≡ values_at (part_of msg len) places
+pub values_read : (s places v : List ℕ) → length places ≡ 8 → length v ≡ 8 → ((j : ℕ) → j < 8 → get_or v j 0 ≡ number s (get_or places j 0 + 12)) → v ≡ values_at (whole s) places
 unfolding values_at value_at
-values_read msg len places v eight n reach h =
-    ext_get_or 0 v (map (value_at (part_of msg len)) places) (n ∙ sym (length-map places (value_at (part_of msg len)) ∙ eight))
-    (λ j i. h j (omega arith) ∙ sym (num_part msg len (get_or places j 0 + 12) (omega (arith, reach j (omega arith))))
-    ∙ sym (get_d_map (value_at (part_of msg len)) places j (omega arith)))
+values_read s places v eight n h =
+    ext_get_or 0 v (map (value_at (whole s)) places) (n ∙ sym (length-map places (value_at (whole s)) ∙ eight))
+    (λ j i. h j (omega arith) ∙ sym (get_d_map (value_at (whole s)) places j (omega arith)))
 
 -- THE MARK of an identifier after members is its mark after those of them that have the identifier
 onto_all : ℕ → List Row → ℕ
@@ -139,7 +121,7 @@ module _ (rows : List Row) (placed : Placed rows) where
 
   -- EACH ONCE: all marks are places, and then they are the meaning's
   pub marks_once : (sheet : List ℕ) → all_found (map (λ id. noted_in id 0 rows) sheet) ≡ each_once sheet rows
-  unfolding all_found each_once
+  unfolding each_once
   marks_once [] = refl
   marks_once (id ∷ ids) = rw (mark_test id, marks_once ids) refl
 
@@ -183,34 +165,35 @@ module _ (sheet : List ℕ) (eight : length sheet ≡ 8) (w : Result Walked) (ma
           subst P (sym (h.each j i ∙ mark_rows id w ∙ mark_place members placed id o)) (once_place P (named id members) o (every_named (λ r. P r.place) id members every))
 
 -- ONE TURN over direct members
-pub mark_end : (m : Part) (p id mark : ℕ) → mark_from id mark (walk m p 2 0) ≡ mark
+pub mark_end : (m : Part) (p n id mark : ℕ) → n ≡ 0 → mark_from id mark (walk m p 2 n) ≡ mark
 unfolding direct_in noted_in
-mark_end m p id mark = rw (walk_zero m p 2) refl
+mark_end m p n id mark z = rw (z, walk_zero m p 2) refl
 
-module _ (m : Part) (p left : ℕ) (due : 0 < left) where
+module _ (m : Part) (p left left' : ℕ) (due : left ≡ left' + 1) where
   module _ (r : Row) (q : ℕ) (o : Over m p 2 r q) where
     pub next_direct : (y : Walked) → direct_in (r ∷ (o.inside ++ y.rows)) ≡ r ∷ direct_in y.rows
     next_direct y =
         direct_next r o.inside y.rows (sym (row_at_lem m p 2 r o.there).at_depth)
         (λ x i. walks_depth (walks m (p + r.size) 3 r.members o.inside q o.within) x i)
 
-    mark_next : (id mark : ℕ) → mark_from id mark (walk m p 2 left) ≡ mark_from id (noted id mark r.kind r.parameter r.place) (walk m q 2 (left - 1))
+    mark_next : (id mark : ℕ) → mark_from id mark (walk m p 2 left) ≡ mark_from id (noted id mark r.kind r.parameter r.place) (walk m q 2 left')
     unfolding noted_in
-    mark_next id mark = rw (walk_over m p 2 left due r q o) (go (walk m q 2 (left - 1)))
+    mark_next id mark = rw (walk_over m p 2 left left' due r q o) (go (walk m q 2 left'))
       where
         go : (w : Result Walked) → mark_from id mark (and_then w (λ y. walked (r ∷ (o.inside ++ y.rows)) y.next)) ≡ mark_from id (noted id mark r.kind r.parameter r.place) w
         go (accepted y) = rw (next_direct y) refl
         go (refused k x) = refl
 
 -- the same with the fields that were read, and the place behind
-pub mark_read : (s : List ℕ) (len p left q kind parameter : ℕ) → 0 < left → behind_of (crossed (part_of s len) p 2) ≡ accepted q → kind ≡ number s p
+pub mark_read : (s : List ℕ) (p left left' q kind parameter : ℕ) → left ≡ left' + 1 → behind_of (crossed (whole s) p 2) ≡ accepted q → kind ≡ number s p
     → parameter ≡ number s (p + 8) → (id mark : ℕ)
-    → mark_from id mark (walk (part_of s len) p 2 left) ≡ mark_from id (noted id mark kind parameter p) (walk (part_of s len) q 2 (left - 1))
-mark_read s len p left q kind parameter due b k j id mark =
-    let o = behind_over (part_of s len) p 2 q b in
+    → mark_from id mark (walk (whole s) p 2 left) ≡ mark_from id (noted id mark kind parameter p) (walk (whole s) q 2 left')
+mark_read s p left left' q kind parameter due b k j id mark =
+    let o = behind_over (whole s) p 2 q b in
     let r : Row = o.0 in
-    let a : kind ≡ r.kind = k ∙ row_kind s len p 2 r o.1.there in
-    let e : parameter ≡ r.parameter = j ∙ row_parameter s len p 2 r o.1.there in
-    let f : p ≡ r.place = (row_at_lem (part_of s len) p 2 r o.1.there).at_place in
+    let at = row_at_lem (whole s) p 2 r o.1.there in
+    let a : kind ≡ r.kind = k ∙ at.at_kind in
+    let e : parameter ≡ r.parameter = j ∙ at.at_parameter in
+    let f : p ≡ r.place = at.at_place in
     let g : noted id mark r.kind r.parameter r.place ≡ noted id mark kind parameter p = cc in
-    mark_next (part_of s len) p left due r q o.1 id mark ∙ ap (λ (x : ℕ). mark_from id x (walk (part_of s len) q 2 (left - 1))) g
+    mark_next (whole s) p left left' due r q o.1 id mark ∙ ap (λ (x : ℕ). mark_from id x (walk (whole s) q 2 left')) g

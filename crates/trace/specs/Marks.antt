@@ -1,5 +1,6 @@
 -- The marks of attributes: an attribute's place, 0 where it is absent, or 1 where it is at fault.
-use Rattle.std.specs.Prelude.{ℕ, ◌+◌, ◌≤◌, ◌<◌, ◌≡◌, Bool, true, cond, ◌&&◌, List, [], ◌∷◌, length, get_or, ltb, eqb}
+use Rattle.std.specs.Prelude.{ℕ, ◌+◌, ◌≤◌, ◌<◌, ◌≡◌, Bool, cond, ◌&&◌, List, [], ◌∷◌, length, get_or, ltb, eqb}
+use Rattle.std.specs.List.{list_all}
 use Rattle.meaning.specs.Names.{MQCFT_INTEGER}
 use Rattle.meaning.specs.Answer.{Result, accepted, refused}
 use Rattle.meaning.specs.Structure.{Row}
@@ -35,9 +36,8 @@ pub record Marked (sheet : List ℕ) (w : Result Walked) (marks : List ℕ) : Ty
   pub each : (j : ℕ) → j < 8 → get_or marks j 0 ≡ mark_from (get_or sheet j 0) 0 w
 
 -- none is absent or at fault
-unfoldable pub all_found : List ℕ → Bool
-all_found [] = true
-all_found (p ∷ ps) = ltb 1 p && all_found ps
+abbrev pub all_found : List ℕ → Bool
+all_found marks = list_all (λ p. ltb 1 p) marks
 
 -- the integers at these places end in the message
 abbrev pub InReach : ℕ → List ℕ → Type 0

@@ -1,9 +1,9 @@
 // The eight attributes among the direct members of the TraceRoute group.
-ghost use Rattle.std.specs.Prelude.{◌≡◌, ◌≤◌, length};
+ghost use Rattle.std.specs.Prelude.{◌≡◌, length, true};
 ghost use Rattle.meaning.specs.Walk.{walk};
-ghost use Rattle.meaning.specs.Bytes.{part_of};
+ghost use Rattle.meaning.specs.Bytes.{whole};
 ghost use Rattle.meaning.specs.Trace.{values_at};
-ghost use Rattle.trace.specs.Passing.{Known};
+ghost use Rattle.trace.specs.Passing.{is_sound};
 ghost use Rattle.trace.specs.Marks.{noted, Noted, Marked, all_found, InReach};
 
 use crate::passing::behind;
@@ -43,28 +43,24 @@ fn note_all(
     ensures { Noted sheet marks kind parameter place result }
 {
     let mut after = marks;
-    let mut k = 0;
-    while k < 8 {
+    for k in 0..8 {
         after[k] = note(sheet[k], marks[k], kind, parameter, place);
-        k += 1;
     }
     after
 }
 
 // The marks of the eight attributes after all of a group's direct members, `count` of them, the first at `place`. What is
 // nested deeper is passed over. The members were surveyed, so none is checked again.
-pub fn marks_of(msg: &[u8], end: usize, place: usize, count: u32, sheet: [u32; 8]) -> [usize; 8]
-    requires { Known msg.now end (walk (part_of msg.now end) place 2 count) }
-    ensures { Marked sheet (walk (part_of msg.now end) place 2 count) result }
+pub fn marks_of(s: &[u8], place: usize, count: u32, sheet: [u32; 8]) -> [usize; 8]
+    requires { is_sound (walk (whole s.now) place 2 count) ≡ true }
+    ensures { Marked sheet (walk (whole s.now) place 2 count) result }
 {
     let mut at = place;
-    let mut left = count;
-    let mut marks = [0usize; 8];
-    while 0 < left {
-        let after = note_all(sheet, marks, number_at(msg, at), number_at(msg, at + 8), at);
+    let mut marks = [ABSENT; 8];
+    for _ in 0..count {
+        let after = note_all(sheet, marks, number_at(s, at), number_at(s, at + 8), at);
         marks = after;
-        at = behind(msg, end, at, 2);
-        left = left - 1;
+        at = behind(s, at, 2);
     }
     marks
 }
@@ -73,26 +69,17 @@ pub fn marks_of(msg: &[u8], end: usize, place: usize, count: u32, sheet: [u32; 8
 pub fn all_found(marks: [usize; 8]) -> bool
     ensures { result ≡ all_found marks }
 {
-    let mut k = 0;
-    while k < 8 {
-        if marks[k] <= FAULT {
-            return false;
-        }
-        k += 1;
-    }
-    true
+    marks.iter().all(|&mark| mark > FAULT)
 }
 
 // The Values of the integers at eight places.
-pub fn values_at(msg: &[u8], end: usize, places: [usize; 8]) -> [u32; 8]
-    requires { (end ≤ length msg.now) × InReach end places }
-    ensures { result ≡ values_at (part_of msg.now end) places }
+pub fn values_at(s: &[u8], places: [usize; 8]) -> [u32; 8]
+    requires { InReach (length s.now) places }
+    ensures { result ≡ values_at (whole s.now) places }
 {
-    let mut values = [0u32; 8];
-    let mut k = 0;
-    while k < 8 {
-        values[k] = number_at(msg, places[k] + 12);
-        k += 1;
+    let mut values = [0; 8];
+    for k in 0..8 {
+        values[k] = number_at(s, places[k] + 12);
     }
     values
 }

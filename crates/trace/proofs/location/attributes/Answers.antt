@@ -1,6 +1,6 @@
 -- All marks are places exactly where each identifier has one integer, and then they are the meaning's places.
 use Rattle.std.proofs.Common.{◌≡◌, ◌≤◌, ◌+◌, ℕ, Bool, true, false, List, sym, ◌∙◌, arith, length}
-use Rattle.meaning.specs.Bytes.{Part, part_of}
+use Rattle.meaning.specs.Bytes.{Part, whole}
 use Rattle.meaning.specs.Structure.{Row}
 use Rattle.meaning.specs.Walk.{walk, rows_in}
 use Rattle.meaning.specs.Trace.{direct_in, each_once, places_of}
@@ -32,31 +32,31 @@ reach sheet m inside count marks found eight marked behind e f j h =
 pub returns-then-not-all_found : goal.returns-then-not-all_found
 returns-then-not-all_found c =
     let a = c.args in
-    let m = part_of a.msg.now a.part.end in
-    c.stopped.ensures ∙ attributes_unfound a.sheet m (members_of m a.inside a.members) a.activity a.part
-    (once a.sheet m a.inside a.members _ _ false (omega arith) c.marks_of-places.ensures c.requires.behind c.all_found.ensures c.if-not-all_found.true)
+    let m = whole a.s.now in
+    attributes_unfound a.sheet m (members_of m a.route.inside a.route.members) a.activity a.part
+    (once a.sheet m a.route.inside a.route.members _ _ false (omega arith) c.marks_of-places.ensures c.requires.behind c.all_found.ensures c.if-not-all_found.true)
 
 pub values_at-values-requires : goal.values_at-values-requires
 values_at-values-requires c =
     let a = c.args in
-    (c.requires.known.there, reach a.sheet (part_of a.msg.now a.part.end) a.inside a.members _ _ (omega arith) c.marks_of-places.ensures c.requires.behind c.all_found.ensures c.if-not-all_found.false)
+    reach a.sheet (whole a.s.now) a.route.inside a.route.members _ _ (omega arith) c.marks_of-places.ensures c.requires.behind c.all_found.ensures c.if-not-all_found.false
 
 pub returns-then-not-in_range : goal.returns-then-not-in_range
 returns-then-not-in_range c =
     let a = c.args in
-    let m = part_of a.msg.now a.part.end in
+    let m = whole a.s.now in
     let e = c.if-not-all_found.false in
-    c.stopped-then-not-in_range.ensures ∙ attributes_unranged a.sheet m (members_of m a.inside a.members) a.activity a.part
-    (once a.sheet m a.inside a.members _ _ true (omega arith) c.marks_of-places.ensures c.requires.behind c.all_found.ensures e) _ _
-    (places a.sheet m a.inside a.members _ _ (omega arith) c.marks_of-places.ensures c.requires.behind c.all_found.ensures e)
+    attributes_unranged a.sheet m (members_of m a.route.inside a.route.members) a.activity a.part
+    (once a.sheet m a.route.inside a.route.members _ _ true (omega arith) c.marks_of-places.ensures c.requires.behind c.all_found.ensures e) _ _
+    (places a.sheet m a.route.inside a.route.members _ _ (omega arith) c.marks_of-places.ensures c.requires.behind c.all_found.ensures e)
     c.values_at-values.ensures (sym c.in_range.ensures ∙ c.if-not-in_range.true)
 
 pub returns : goal.returns
 returns c =
     let a = c.args in
-    let m = part_of a.msg.now a.part.end in
+    let m = whole a.s.now in
     let e = c.if-not-all_found.false in
-    attributes_found a.sheet m (members_of m a.inside a.members) a.activity a.part
-    (once a.sheet m a.inside a.members _ _ true (omega arith) c.marks_of-places.ensures c.requires.behind c.all_found.ensures e) _ _
-    (places a.sheet m a.inside a.members _ _ (omega arith) c.marks_of-places.ensures c.requires.behind c.all_found.ensures e)
+    attributes_found a.sheet m (members_of m a.route.inside a.route.members) a.activity a.part
+    (once a.sheet m a.route.inside a.route.members _ _ true (omega arith) c.marks_of-places.ensures c.requires.behind c.all_found.ensures e) _ _
+    (places a.sheet m a.route.inside a.route.members _ _ (omega arith) c.marks_of-places.ensures c.requires.behind c.all_found.ensures e)
     c.values_at-values.ensures (sym c.in_range.ensures ∙ c.if-not-in_range.false)
