@@ -46,8 +46,7 @@ fn header_ok(msg: &[u8], opening: Opening) -> bool
 {
     let start = opening.part.start;
     let version = number_at(msg, start + 8);
-    number_at(msg, start + 4) == 36
-        && (1 <= version && (version <= 3 && opening.count < TWO_TO_31))
+    number_at(msg, start + 4) == 36 && (1 <= version && (version <= 3 && opening.count < TWO_TO_31))
 }
 
 // What comes before the structures: the part and the ParameterCount of its sound header, or 1, 18 or 2.

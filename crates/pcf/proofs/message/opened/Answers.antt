@@ -1,45 +1,31 @@
 -- The part was located, and lies in the message.
-use Rattle.std.proofs.Common.{◌≡◌, ◌∙◌, sym, arith}
-use Rattle.meaning.specs.Answer.{accepted}
-use Rattle.meaning.specs.Layout.{located}
-use Rattle.layout.specs.Layouts.{layout_of, part_at}
-use Rattle.pcf.specs.Messages.{Reaches}
-use Rattle.pcf.proofs.Openings.{shut, reaches, unheaded, headed, located_as}
+use Rattle.std.proofs.Common.{refl, sym, ◌∙◌, arith}
+use Rattle.std.proofs.lemmas.Result.{err_from_is_err_and}
+use Rattle.pcf.specs.Messages.{opened}
+use Rattle.pcf.proofs.Openings.{reaches, unheaded, headed}
 use Rattle.pcf.proofs.message.opened.Goals as goal
+
+pub returns-in_err-part : goal.returns-in_err-part
+unfolding opened
+returns-in_err-part c =
+    let p = err_from_is_err_and c.from_residual.result c.from_residual.ensures.1 in
+    rw (p.1, p.2, ← c.in_err-part.ensures) refl
 
 pub overflow_add-part : goal.overflow_add-part
 overflow_add-part c =
-    let a = c.args in
-    let lies : located (layout_of a.layout) a.msg.now a.len ≡ accepted (part_at a.msg.now c.in-At.part) = located_as a.msg.now c.locate-found.ensures c.in-At.is in
-    let within : Reaches a.msg.now c.in-At.part = reaches (layout_of a.layout) a.msg.now a.len c.in-At.part lies in
-    omega (arith, within.room, within.most)
+    let r = reaches _ c.args.msg.now _ _ c.in_ok-part.ensures in omega (arith, r.room, r.most)
 
 pub number_at-count-requires : goal.number_at-count-requires
 number_at-count-requires c =
-    let a = c.args in
-    let lies : located (layout_of a.layout) a.msg.now a.len ≡ accepted (part_at a.msg.now c.in-At.part) = located_as a.msg.now c.locate-found.ensures c.in-At.is in
-    let within : Reaches a.msg.now c.in-At.part = reaches (layout_of a.layout) a.msg.now a.len c.in-At.part lies in
-    omega (arith, within.room, within.there)
+    let r = reaches _ c.args.msg.now _ _ c.in_ok-part.ensures in omega (arith, r.room, r.there)
 
 pub header_ok-requires : goal.header_ok-requires
-header_ok-requires c =
-    let a = c.args in
-    let lies : located (layout_of a.layout) a.msg.now a.len ≡ accepted (part_at a.msg.now c.in-At.part) = located_as a.msg.now c.locate-found.ensures c.in-At.is in
-    let within : Reaches a.msg.now c.in-At.part = reaches (layout_of a.layout) a.msg.now a.len c.in-At.part lies in
-    record { reaches = within; read = c.number_at-count.ensures }
-
-pub returns-in-Refused : goal.returns-in-Refused
-returns-in-Refused c =
-    shut _ c.args.msg.now c.args.len _ _ (located_as c.args.msg.now c.locate-found.ensures c.in-Refused.is)
+header_ok-requires c = record { reaches = reaches _ c.args.msg.now _ _ c.in_ok-part.ensures; read = c.number_at-count.ensures }
 
 pub returns-then-header_ok : goal.returns-then-header_ok
 returns-then-header_ok c =
-    let a = c.args in
-    let lies : located (layout_of a.layout) a.msg.now a.len ≡ accepted (part_at a.msg.now c.in-At.part) = located_as a.msg.now c.locate-found.ensures c.in-At.is in
-    headed (layout_of a.layout) a.msg.now a.len c.in-At.part lies (sym c.header_ok.ensures ∙ c.if-header_ok.true) _ c.number_at-count.ensures
+    headed _ c.args.msg.now _ _ c.in_ok-part.ensures (sym c.header_ok.ensures ∙ c.if-header_ok.true) _ c.number_at-count.ensures
 
 pub returns-else-header_ok : goal.returns-else-header_ok
 returns-else-header_ok c =
-    let a = c.args in
-    let lies : located (layout_of a.layout) a.msg.now a.len ≡ accepted (part_at a.msg.now c.in-At.part) = located_as a.msg.now c.locate-found.ensures c.in-At.is in
-    unheaded (layout_of a.layout) a.msg.now a.len c.in-At.part lies (sym c.header_ok.ensures ∙ c.if-header_ok.false)
+    unheaded _ c.args.msg.now _ _ c.in_ok-part.ensures (sym c.header_ok.ensures ∙ c.if-header_ok.false)

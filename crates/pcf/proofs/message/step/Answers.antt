@@ -1,42 +1,37 @@
 -- The part was located, and lies in the message; the meaning goes by the same two steps.
-use Rattle.std.proofs.Common.{◌≡◌, refl, arith}
-use Rattle.meaning.specs.Answer.{accepted}
-use Rattle.meaning.specs.Bytes.{part_of}
-use Rattle.meaning.specs.Layout.{located}
+use Rattle.std.proofs.Common.{refl, sym, arith}
+use Rattle.std.proofs.lemmas.Result.{err_from_is_err_and}
+use lib.Seq.{length-take-le}
 use Rattle.meaning.specs.Message.{step}
 use Rattle.meaning.proofs.Structures.{row_at_lem}
-use Rattle.meaning.proofs.Fuel.{structure_from}
-use Rattle.layout.specs.Layouts.{layout_of, part_at}
-use Rattle.structure.proofs.Findings.{is_row, is_refusal}
-use Rattle.pcf.proofs.Openings.{located_as, reaches}
+use Rattle.pcf.proofs.Openings.{reaches, structure_part}
 use Rattle.pcf.proofs.message.step.Goals as goal
 
-pub structure_at-met-requires : goal.structure_at-met-requires
-structure_at-met-requires c =
-    let a = c.args in
-    let lies : located (layout_of a.layout) a.msg.now a.len ≡ accepted (part_at a.msg.now c.in-At.part) = located_as a.msg.now c.locate-found.ensures c.in-At.is in
-    (reaches (layout_of a.layout) a.msg.now a.len c.in-At.part lies).there
-
-pub overflow_add-next : goal.overflow_add-next
-overflow_add-next c =
-    let a = c.args in
-    let lies : located (layout_of a.layout) a.msg.now a.len ≡ accepted (part_at a.msg.now c.in-At.part) = located_as a.msg.now c.locate-found.ensures c.in-At.is in
-    omega (arith, (row_at_lem _ _ _ _ (is_row c.structure_at-met.ensures c.in-Structure.is)).at_fits, (reaches (layout_of a.layout) a.msg.now a.len c.in-At.part lies).most)
-
-pub returns-in-Refused : goal.returns-in-Refused
+pub returns-in_err-part : goal.returns-in_err-part
 unfolding step
-returns-in-Refused c = rw (located_as c.args.msg.now c.locate-found.ensures c.in-Refused.is) refl
+returns-in_err-part c =
+    let p = err_from_is_err_and c.from_residual.result c.from_residual.ensures.1 in
+    rw (p.1, p.2, ← c.in_err-part.ensures) refl
 
-pub returns-in-Structure : goal.returns-in-Structure
-unfolding step
-returns-in-Structure c =
-    let a = c.args in
-    let lies : located (layout_of a.layout) a.msg.now a.len ≡ accepted (part_at a.msg.now c.in-At.part) = located_as a.msg.now c.locate-found.ensures c.in-At.is in
-    rw (lies, structure_from c.in-At.part.start (part_of a.msg.now c.in-At.part.end) a.at.place a.at.depth, is_row c.structure_at-met.ensures c.in-Structure.is) refl
+pub slice_bounds-structure_at-end : goal.slice_bounds-structure_at-end
+slice_bounds-structure_at-end c = sym (length-take-le _ c.args.msg.now (reaches _ c.args.msg.now _ _ c.in_ok-part.ensures).there)
 
-pub returns-in-Refused-met : goal.returns-in-Refused-met
+pub returns-in_err-row : goal.returns-in_err-row
 unfolding step
-returns-in-Refused-met c =
+returns-in_err-row c =
     let a = c.args in
-    let lies : located (layout_of a.layout) a.msg.now a.len ≡ accepted (part_at a.msg.now c.in-At.part) = located_as a.msg.now c.locate-found.ensures c.in-At.is in
-    rw (lies, structure_from c.in-At.part.start (part_of a.msg.now c.in-At.part.end) a.at.place a.at.depth, is_refusal c.structure_at-met.ensures c.in-Refused-met.is) refl
+    let r = reaches _ a.msg.now _ _ c.in_ok-part.ensures in
+    let p = err_from_is_err_and c.from_residual-in_err-row.result c.from_residual-in_err-row.ensures.1 in
+    rw (p.1, p.2, ← c.in_ok-part.ensures, structure_part a.msg.now c.in_ok-part.part r.there a.at.place a.at.depth, ← c.in_err-row.ensures) refl
+
+pub overflow_add-result : goal.overflow_add-result
+overflow_add-result c =
+    let r = reaches _ c.args.msg.now _ _ c.in_ok-part.ensures in
+    omega (arith, (row_at_lem _ _ _ _ (sym c.in_ok-row.ensures)).at_fits, length-take-le _ c.args.msg.now r.there, r.most)
+
+pub returns : goal.returns
+unfolding step
+returns c =
+    let a = c.args in
+    let r = reaches _ a.msg.now _ _ c.in_ok-part.ensures in
+    rw (← c.in_ok-part.ensures, structure_part a.msg.now c.in_ok-part.part r.there a.at.place a.at.depth, ← c.in_ok-row.ensures) refl
