@@ -20,6 +20,7 @@ pub enum Decision {
 
 // Forwarding to a remote manager that supports trace-route messaging or does not. If it does not, Deliver is judged first,
 // and where Deliver says yes Forward is not looked at.
+#[tactic(auto, unfolding(meaning::specs::Decision::forward_by, meaning::specs::Decision::unrecognised, meaning::specs::Decision::deliver_yes, meaning::specs::Decision::if_supported))]
 pub fn forward_by(v: [u32; 8], supporting: bool) -> Result<Decision, Refusal>
     ensures { answered decision_of result ≡ forward_by v supporting }
 {
@@ -41,6 +42,7 @@ pub fn forward_by(v: [u32; 8], supporting: bool) -> Result<Decision, Refusal>
 }
 
 // Arrival at the queue manager that the message is for.
+#[tactic(auto, unfolding(meaning::specs::Decision::arrive_by, meaning::specs::Decision::unrecognised, meaning::specs::Decision::deliver_yes))]
 pub fn arrive_by(v: [u32; 8]) -> Result<Decision, Refusal>
     ensures { answered decision_of result ≡ arrive_by v }
 {
