@@ -6,61 +6,60 @@ use Rattle.structure.proofs.Extents.{Reaches, reaches, reaches_none, reach_fits,
 use Rattle.walk.proofs.Numbering.{past, past_fault, number-none, number_refused, number_on, number_halt, number_plain}
 use Rattle.walk.proofs.Answers.{given_on}
 use Rattle.walk.proofs.passing.+over.Goals as goal
-use Rattle.walk.proofs.passing.+over.Goals.{then-members-ne0+in_ok-inner, else-members-ne0}
+use Rattle.walk.proofs.passing.+over.Goals.{then-members-ne0+in_ok-inner-in-Ok, else-members-ne0}
 
 -- a structure is refused
-pub returns-in_err-size : goal.returns-in_err-size
-returns-in_err-size t c =
+pub returns-in-Err : goal.returns-in-Err
+returns-in-Err t c =
     let due : c.args.count - c.loop.counter ≡ c.args.count - (c.loop.counter + 1) + 1 = omega (arith, c.loop-test.true) in
-    rw (given_on _ _ c.from_residual.ensures.1)
-    (sym (c.loop.invariant.0 ∙ number_refused _ _ _ _ _ _ due _ _ (reaches_none c.in_err-size.ensures)))
+    (sym (c.loop.invariant.0 ∙ number_refused _ _ _ _ _ _ due _ _ (reaches_none c.in-Err.ensures)))
 
 -- one structure more, and the next place
 pub overflow_add-behind : goal.overflow_add-behind
 overflow_add-behind t c =
-    let r : Reaches (whole c.args.s.now) c.loop.behind c.args.depth c.in_ok-size.field-0.size c.in_ok-size.field-0.members = reaches c.in_ok-size.ensures in
+    let r : Reaches (whole c.args.s.now) c.loop.behind c.args.depth c.in-Ok.field-0.size c.in-Ok.field-0.members = reaches c.in-Ok.ensures in
     omega (arith, reach_fits r)
 
 pub overflow_add-number : goal.overflow_add-number
 overflow_add-number t c =
-    let r : Reaches (whole c.args.s.now) c.loop.behind c.args.depth c.in_ok-size.field-0.size c.in_ok-size.field-0.members = reaches c.in_ok-size.ensures in
+    let r : Reaches (whole c.args.s.now) c.loop.behind c.args.depth c.in-Ok.field-0.size c.in-Ok.field-0.members = reaches c.in-Ok.ensures in
     omega (arith, reach_fits r, reach_least r, c.loop.invariant.1)
 
 -- the members of a group
 pub overflow_add-depth : goal.overflow_add-depth
 overflow_add-depth t c =
-    let r : Reaches (whole c.args.s.now) c.loop.behind c.args.depth c.in_ok-size.field-0.size c.in_ok-size.field-0.members = reaches c.in_ok-size.ensures in
+    let r : Reaches (whole c.args.s.now) c.loop.behind c.args.depth c.in-Ok.field-0.size c.in-Ok.field-0.members = reaches c.in-Ok.ensures in
     omega (arith, reach_shallow r c.if-members-ne0.true)
 
 pub over-requires : goal.over-requires
 over-requires t c =
-    let r : Reaches (whole c.args.s.now) c.loop.behind c.args.depth c.in_ok-size.field-0.size c.in_ok-size.field-0.members = reaches c.in_ok-size.ensures in
+    let r : Reaches (whole c.args.s.now) c.loop.behind c.args.depth c.in-Ok.field-0.size c.in-Ok.field-0.members = reaches c.in-Ok.ensures in
     (omega (arith, c.decreases, reach_shallow r c.if-members-ne0.true), tt)
 
 -- the walk inside met a fault
-pub returns-in_err-inner : goal.returns-in_err-inner
-returns-in_err-inner t c =
-    let r : Reaches (whole c.args.s.now) c.loop.behind c.args.depth c.in_ok-size.field-0.size c.in_ok-size.field-0.members = reaches c.in_ok-size.ensures in
+pub returns-in_err-inner-in-Ok : goal.returns-in_err-inner-in-Ok
+returns-in_err-inner-in-Ok t c =
+    let r : Reaches (whole c.args.s.now) c.loop.behind c.args.depth c.in-Ok.field-0.size c.in-Ok.field-0.members = reaches c.in-Ok.ensures in
     let due : c.args.count - c.loop.counter ≡ c.args.count - (c.loop.counter + 1) + 1 = omega (arith, c.loop-test.true) in
-    rw (given_on _ _ c.from_residual-in_err-inner.ensures.1)
-    (sym (c.loop.invariant.0 ∙ number_halt _ _ _ _ _ _ due _ _ r _ _ (past_fault _ _ _ _ _ _ c.in_err-inner.ensures)))
+    rw (given_on _ _ c.from_residual.ensures.1)
+    (sym (c.loop.invariant.0 ∙ number_halt _ _ _ _ _ _ due _ _ r _ _ (past_fault _ _ _ _ _ _ c.in_err-inner-in-Ok.ensures)))
 
 -- as many structures more as it passed over
 pub overflow_add-number-then-members-ne0 : goal.overflow_add-number-then-members-ne0
 overflow_add-number-then-members-ne0 t c =
-    let r : Reaches (whole c.args.s.now) c.loop.behind c.args.depth c.in_ok-size.field-0.size c.in_ok-size.field-0.members = reaches c.in_ok-size.ensures in
-    let w = past _ _ _ _ _ _ c.in_ok-inner.ensures in
+    let r : Reaches (whole c.args.s.now) c.loop.behind c.args.depth c.in-Ok.field-0.size c.in-Ok.field-0.members = reaches c.in-Ok.ensures in
+    let w = past _ _ _ _ _ _ c.in_ok-inner-in-Ok.ensures in
     omega (arith, reach_least r, c.loop.invariant.1, w.room, w.end (reach_fits r))
 
 -- the next turn, after the members of a group, or after a structure with nothing inside
 pub loop-preserved : goal.loop-preserved
 loop-preserved t c =
-    let r : Reaches (whole c.args.s.now) c.loop.behind c.args.depth c.in_ok-size.field-0.size c.in_ok-size.field-0.members = reaches c.in_ok-size.ensures in
+    let r : Reaches (whole c.args.s.now) c.loop.behind c.args.depth c.in-Ok.field-0.size c.in-Ok.field-0.members = reaches c.in-Ok.ensures in
     let due : c.args.count - c.loop.counter ≡ c.args.count - (c.loop.counter + 1) + 1 = omega (arith, c.loop-test.true) in
     let on = c.loop.invariant.0 in
     elim c.if-members-ne0.branch [
-      | then-members-ne0+in_ok-inner w ↦
-          let e = past _ _ _ _ _ _ w.in_ok-inner.ensures in (
+      | then-members-ne0+in_ok-inner-in-Ok w ↦
+          let e = past _ _ _ _ _ _ w.in_ok-inner-in-Ok.ensures in (
             rw (w.behind-is, w.number-is) (on ∙ number_on _ _ _ _ _ _ due _ _ r _ _ e),
             rw (w.behind-is, w.number-is) (omega (arith, reach_least r, c.loop.invariant.1, e.room)),
           )
