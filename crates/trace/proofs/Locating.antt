@@ -27,7 +27,6 @@ use Rattle.layout.specs.Layouts.{part_at}
 use Rattle.layout.specs.declared.part.Part.{Part as PartIn}
 use Rattle.pcf.specs.Messages.{Opened, opened, structures_of, Reaches}
 use Rattle.pcf.proofs.Openings.{Begun as Opening, walk_part, scan_opened, begun, reaches}
-use Rattle.wire.proofs.Parts.{whole-take}
 use Rattle.header.specs.Headers.{fields_of, starts_with}
 use Rattle.trace.specs.Passing.{is_sound}
 use Rattle.trace.specs.Groups.{whole_group, counted, tops_of, surveyed}
@@ -241,19 +240,16 @@ module _ {tm : Terms} {buf : List ℕ} {len : ℕ} {part : PartIn} {count : ℕ}
   same = (sized tm.layout buf len M start.lies).0
 
   pub lies : Reaches buf part
-  lies = reaches tm.layout buf len part start.lies
+  lies = reaches tm.layout buf len part (sym start.lies)
 
   -- what is gone over: the bytes up to the part's end
-  walk_taken : (at d n : ℕ) → walk M at d n ≡ walk (whole (take part.end buf)) at d n
-  walk_taken at d n = walk_part buf part at d n ∙ ap (λ (x : Part). walk x at d n) (sym (whole-take buf part.end lies.there))
-
   abbrev gone : Result Walked
   gone = walk (whole (take part.end buf)) (part.start + 36) 1 count
 
   scanned : scan tm.layout buf len ≡ and_then gone (closed part.end)
   scanned =
       scan_opened tm.layout buf len ∙ ap (λ (x : Result Opened). and_then x (λ o. structures_of o.part o.count)) (sym g.opens)
-      ∙ ap (λ (x : Result Walked). and_then x (closed part.end)) (walk_taken (part.start + 36) 1 count)
+      ∙ ap (λ (x : Result Walked). and_then x (closed part.end)) (walk_part buf part lies.there (part.start + 36) 1 count)
 
   pub trace_halt : (n k q : ℕ) → refused k q ≡ surveyed n gone → refused k q ≡ traced_by n tm buf len
   trace_halt n k q e = trace_unscanned tm buf len n g.sheeted k q (scanned ∙ rw (then_refused gone (tops_of n) k q (sym e)) refl)
@@ -268,7 +264,7 @@ module _ {tm : Terms} {buf : List ℕ} {len : ℕ} {part : PartIn} {count : ℕ}
 
     module _ (z : s.behind ≡ part.end) where
       tree : Walks M (part.start + 36) 1 count t.rows part.end
-      tree = walks_as refl refl z (walks M (part.start + 36) 1 count t.rows s.behind (walk_taken (part.start + 36) 1 count ∙ t.over))
+      tree = walks_as refl refl z (walks M (part.start + 36) 1 count t.rows s.behind (walk_part buf part lies.there (part.start + 36) 1 count ∙ t.over))
 
       whole_rows : scan tm.layout buf len ≡ accepted t.rows
       unfolding closed
@@ -294,7 +290,7 @@ module _ {tm : Terms} {buf : List ℕ} {len : ℕ} {part : PartIn} {count : ℕ}
           (λ i.
           let first : 0 < length (trace_routes t.rows) = omega arith in
           record {
-            sound = ap is_sound (sym (walk_taken _ 2 _) ∙ nth_walk M (part.start + 36) count t.rows tree MQGACF_TRACE_ROUTE 0 first);
+            sound = ap is_sound (sym (walk_part buf part lies.there _ 2 _) ∙ nth_walk M (part.start + 36) count t.rows tree MQGACF_TRACE_ROUTE 0 first);
             behind = omega (arith, nth_behind M (part.start + 36) count t.rows tree MQGACF_TRACE_ROUTE 0 first);
           })
 
@@ -311,12 +307,13 @@ module _ {tm : Terms} {buf : List ℕ} {len : ℕ} {part : PartIn} {count : ℕ}
 pub attributes_from : (sheet msg : List ℕ) (part : PartIn) (inside members : ℕ) (activity : Group) → part.end ≤ length msg
     → attributes_in sheet (whole (take part.end msg)) inside members activity part ≡ attributes_in sheet (part_at msg part) inside members activity part
 unfolding attributes_by values_at value_at
-attributes_from sheet msg part inside members activity h =
-    let e : walk (whole (take part.end msg)) inside 2 members ≡ walk (part_at msg part) inside 2 members =
-    ap (λ (x : Part). walk x inside 2 members) (whole-take msg part.end h) ∙ sym (walk_part msg part inside 2 members) in
-    rw e refl
+attributes_from sheet msg part inside members activity h = rw (walk_part msg part h inside 2 members) refl
 
 -- WHAT THE ANSWER TELLS of what Read gives
+same_trace : {x : Result Trace} (t : Trace) (places values : List ℕ) → x ≡ accepted t → t.places ≡ places → t.values ≡ values
+    → x ≡ accepted (record { rows = t.rows; places = places; values = values })
+same_trace t places values e p v = rw (← p, ← v) e
+
 module _ (n : ℕ) (tm : Terms) (buf : List ℕ) (len : ℕ) where
   pub traced_refused : (k p : ℕ) → refused k p ≡ traced_by n tm buf len → read_trace tm buf len ≡ refused k p
   traced_refused k p e = then_refused (read_trace tm buf len) (traced n (part_in tm.layout buf len)) k p (sym e)
@@ -337,8 +334,7 @@ module _ (n : ℕ) (tm : Terms) (buf : List ℕ) (len : ℕ) where
       let v : f.0.values ≡ o.values = ap (λ (x : Traced). x.values) g in
       record {
         rows = f.0.rows;
-        read = f.1 ∙ ap (λ (x : List ℕ). accepted (record { rows = f.0.rows; places = x; values = f.0.values })) p
-            ∙ ap (λ (x : List ℕ). accepted (record { rows = f.0.rows; places = o.places; values = x })) v;
+        read = same_trace f.0 o.places o.values f.1 p v;
         activity = sym (ap (λ (x : Traced). x.activity) g);
         part = sym (ap (λ (x : Traced). x.part) g);
       }

@@ -52,13 +52,7 @@ fn attributes(
 }
 
 // 6, then 7, then 8: the header is a trace's, and there is exactly one TraceRoute group.
-fn judge(
-    msg: &[u8],
-    part: Part,
-    sheet: [u32; 8],
-    count: u32,
-    tops: Tops,
-) -> Result<Traced, Refusal>
+fn judge(msg: &[u8], part: Part, sheet: [u32; 8], count: u32, tops: Tops) -> Result<Traced, Refusal>
     requires { Headed msg.now part count tops.routes }
     ensures { answer result ≡ judged_in sheet (part_at msg.now part) tops.routes tops.activities.group }
 {
@@ -68,7 +62,13 @@ fn judge(
     if tops.routes.count != 1 {
         return Err(Refusal::NoTraceRoute);
     }
-    attributes(&msg[..part.end], part, sheet, tops.routes.group, tops.activities.group)
+    attributes(
+        &msg[..part.end],
+        part,
+        sheet,
+        tops.routes.group,
+        tops.activities.group,
+    )
 }
 
 // TRACE: the attributes of a message and its n-th Activity group. 17 comes first, then 1, 18 and 2, then the structures, of which

@@ -1,5 +1,6 @@
 -- Read's tests, in its order: the sheet, what is before the structures, the structures, and what follows them.
-use Rattle.std.proofs.Common.{◌≡◌, ◌≤◌, true, length, sym, ◌∙◌, arith}
+use Rattle.std.proofs.Common.{sym, ◌∙◌, arith}
+use lib.Seq.{length-take-le}
 use Rattle.attributes.specs.Terms.{terms_of}
 use Rattle.walk.proofs.Answers.{given_on}
 use Rattle.trace.proofs.Locating.{Begun, lies, trace_unsheeted, trace_unopened, trace_halt, trace_left, trace_whole, headed}
@@ -20,7 +21,7 @@ pub slice_bounds-survey-end : goal.slice_bounds-survey-end
 slice_bounds-survey-end c =
     let b : Begun (terms_of c.args.terms) c.args.msg.now c.args.len c.in_ok-part.field-0.part c.in_ok-part.field-0.count =
     record { sheeted = sym c.sheet_ok.ensures ∙ c.if-not-sheet_ok.false; opens = c.in_ok-part.ensures } in
-    (lies b).there
+    sym (length-take-le c.in_ok-part.field-0.part.end c.args.msg.now (lies b).there)
 
 pub overflow_add-part : goal.overflow_add-part
 overflow_add-part c =

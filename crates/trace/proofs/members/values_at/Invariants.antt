@@ -6,4 +6,3 @@ use Rattle.trace.proofs.members.values_at.Given as goal
 
 abbrev pub invariant-loop-k : goal.invariant-loop-k
 invariant-loop-k l = (length l.values ≡ 8) × Filled (λ j. number l.s (get_or l.places j 0 + 12)) l.values l.k
-
