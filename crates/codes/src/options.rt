@@ -27,6 +27,7 @@ const REMOTE_SUPPORTS: u32 = 8;
 const EMBEDDED: u32 = 16;
 
 // How the bits say that a message is laid out.
+#[tactic(auto, unfolding(crate::specs::Options::layout_said))]
 pub fn layout_of(options: u32) -> Layout
     ensures { result ≡ layout_said options }
 {
@@ -39,6 +40,7 @@ pub fn layout_of(options: u32) -> Layout
 }
 
 // What the bits say; bits without a name are ignored.
+#[tactic(auto, unfolding(crate::specs::Options::options_in))]
 pub fn options_of(options: u32) -> Options
     ensures { result ≡ options_in options }
 {
