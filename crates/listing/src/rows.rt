@@ -9,7 +9,7 @@ use text::{Line, put_line};
 use wire::number_at;
 
 // The place behind the text that was written, and the place behind the structures that it shows.
-#[derive(Clone, Copy)]
+#[derive(Clone, Copy, Debug, PartialEq, Eq)]
 pub struct Behind {
     pub text: usize,
     pub place: usize,
@@ -40,9 +40,10 @@ fn put_one(s: &[u8], place: usize, depth: u32, out: &mut [u8], at: usize) -> Beh
     let text = put_line(out, at, line);
     if line.kind == MQCFT_GROUP {
         let members = number_at(s, place + 12);
-        return put_all(s, next, depth + 1, members, out, text);
+        put_all(s, next, depth + 1, members, out, text)
+    } else {
+        Behind { text, place: next }
     }
-    Behind { text, place: next }
 }
 
 // Writes the lines of `count` structures from `place` on, with all that is inside them.
@@ -51,14 +52,9 @@ pub fn put_all(s: &[u8], place: usize, depth: u32, count: u32, out: &mut [u8], a
     requires { RowsDue s.now place depth count out.old at }
     ensures { RowsDone (walk (whole s.now) place depth count) out.old at out.new result }
 {
-    let mut text = at;
-    let mut next = place;
-    let mut left = count;
-    while 0 < left {
-        let one = put_one(s, next, depth, out, text);
-        text = one.text;
-        next = one.place;
-        left -= 1;
+    let mut behind = Behind { text: at, place };
+    for _ in 0..count {
+        behind = put_one(s, behind.place, depth, out, behind.text);
     }
-    Behind { text, place: next }
+    behind
 }
