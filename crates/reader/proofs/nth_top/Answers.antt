@@ -1,40 +1,28 @@
 -- The part was located, and lies in the message; the walk over what comes before decides.
-use Rattle.std.proofs.Common.{◌≡◌, ◌∙◌, length, arith}
-use Rattle.meaning.specs.Answer.{accepted}
-use Rattle.meaning.specs.Layout.{located}
-use Rattle.layout.specs.Layouts.{layout_of, part_at}
-use Rattle.pcf.specs.Messages.{Reaches}
-use Rattle.pcf.proofs.Openings.{located_as, reaches}
-use Rattle.walk.proofs.Answers.{passed_as}
+use Rattle.std.proofs.Common.{◌∙◌, sym, arith}
+use Rattle.std.proofs.lemmas.Result.{err_from_is_err_and}
+use lib.Seq.{length-take-le}
+use Rattle.pcf.proofs.Openings.{reaches}
 use Rattle.reader.proofs.Tops.{nowhere, by_walk}
 use Rattle.reader.proofs.nth_top.Goals as goal
 
+pub returns-in_err-part : goal.returns-in_err-part
+returns-in_err-part c =
+    let p = err_from_is_err_and c.from_residual.result c.from_residual.ensures.1 in
+    rw (p.1, p.2) (nowhere _ c.args.msg.now _ c.in_err-part.ensures)
+
+pub slice_bounds-over-end : goal.slice_bounds-over-end
+slice_bounds-over-end c = sym (length-take-le _ _ (reaches _ c.args.msg.now _ _ c.in_ok-part.ensures).there)
+
 pub overflow_add-part : goal.overflow_add-part
 overflow_add-part c =
-    let a = c.args in
-    let lies : located (layout_of a.layout) a.msg.now (length a.msg.now) ≡ accepted (part_at a.msg.now c.in-At.part) = located_as a.msg.now c.locate-found.ensures c.in-At.is in
-    let within : Reaches a.msg.now c.in-At.part = reaches (layout_of a.layout) a.msg.now (length a.msg.now) c.in-At.part lies in
-    omega (arith, within.room, within.most)
+    let within = reaches _ c.args.msg.now _ _ c.in_ok-part.ensures in
+    record { fits = omega (arith, within.room, within.most) }
 
-pub over-passed-requires : goal.over-passed-requires
-over-passed-requires c =
-    let a = c.args in
-    let lies : located (layout_of a.layout) a.msg.now (length a.msg.now) ≡ accepted (part_at a.msg.now c.in-At.part) = located_as a.msg.now c.locate-found.ensures c.in-At.is in
-    let within : Reaches a.msg.now c.in-At.part = reaches (layout_of a.layout) a.msg.now (length a.msg.now) c.in-At.part lies in
-    (within.there, within.most)
+pub returns-in_err-place : goal.returns-in_err-place
+returns-in_err-place c =
+    let p = err_from_is_err_and c.from_residual-in_err-place.result c.from_residual-in_err-place.ensures.1 in
+    rw (p.1, p.2) (by_walk _ c.args.msg.now _ _ c.in_ok-part.ensures _ c.in_err-place.ensures)
 
-pub returns-in-Refused : goal.returns-in-Refused
-returns-in-Refused c =
-    nowhere _ c.args.msg.now _ _ _ (located_as c.args.msg.now c.locate-found.ensures c.in-Refused.is)
-
-pub returns-in-Behind : goal.returns-in-Behind
-returns-in-Behind c =
-    let a = c.args in
-    let lies : located (layout_of a.layout) a.msg.now (length a.msg.now) ≡ accepted (part_at a.msg.now c.in-At.part) = located_as a.msg.now c.locate-found.ensures c.in-At.is in
-    c.look.ensures ∙ by_walk (layout_of a.layout) a.msg.now _ c.in-At.part lies _ (passed_as c.over-passed.ensures c.in-Behind.is)
-
-pub returns-in-Refused-passed : goal.returns-in-Refused-passed
-returns-in-Refused-passed c =
-    let a = c.args in
-    let lies : located (layout_of a.layout) a.msg.now (length a.msg.now) ≡ accepted (part_at a.msg.now c.in-At.part) = located_as a.msg.now c.locate-found.ensures c.in-At.is in
-    by_walk (layout_of a.layout) a.msg.now _ c.in-At.part lies _ (passed_as c.over-passed.ensures c.in-Refused-passed.is)
+pub returns : goal.returns
+returns c = c.look.ensures ∙ by_walk _ c.args.msg.now _ _ c.in_ok-part.ensures _ c.in_ok-place.ensures
