@@ -1,20 +1,20 @@
 -- `forward` meets its contract: Read's refusals, then the decision by the values.
-use Rattle.std.proofs.Common.{sym, ◌∙◌}
+use Rattle.std.proofs.Common.{◌∙◌}
 use Rattle.meaning.specs.Decision.{forward_by, forwarding}
-use Rattle.layout.specs.Layouts.{layout_of}
 use Rattle.attributes.specs.Terms.{terms_of}
-use Rattle.routing.proofs.Given.{by_values, unread, was_read}
+use Rattle.std.proofs.lemmas.Result.{err_from_is_err_and}
+use Rattle.routing.proofs.Given.{none_judged, judged}
 use Rattle.routing.proofs.forward.Goals as goal
 
-pub returns-in-Refused : goal.returns-in-Refused
+pub returns-in_err-t : goal.returns-in_err-t
 unfolding forwarding
-returns-in-Refused c =
+returns-in_err-t c =
     let a = c.args in
-    sym (by_values (terms_of (layout_of a.layout) a.sheet) a.msg.now a.len (λ v. forward_by v c.args.supporting) _ (unread a.layout a.sheet a.msg.now a.len c.trace_of-t.result c.trace_of-t.ensures _ c.in-Refused.is))
+    let p = err_from_is_err_and c.from_residual.result c.from_residual.ensures.1 in
+    rw (p.1, p.2) (none_judged (terms_of a.terms) a.msg.now a.len _ _ c.in_err-t.ensures (λ v. forward_by v a.supporting))
 
-pub returns-in-Found : goal.returns-in-Found
+pub returns : goal.returns
 unfolding forwarding
-returns-in-Found c =
+returns c =
     let a = c.args in
-    c.forward_by.ensures
-    ∙ sym (by_values (terms_of (layout_of a.layout) a.sheet) a.msg.now a.len (λ v. forward_by v c.args.supporting) _ (was_read a.layout a.sheet a.msg.now a.len c.trace_of-t.result c.trace_of-t.ensures c.in-Found.is))
+    c.forward_by.ensures ∙ judged (terms_of a.terms) a.msg.now a.len _ c.in_ok-t.ensures (λ v. forward_by v a.supporting)
