@@ -1,5 +1,5 @@
 -- The part of the message that an Activity group is, from the trace that was read.
-use mathlib.Core.Path.{◌≡◌, refl, ap}
+use mathlib.Core.Path.{◌≡◌, refl, ap, ◌∙◌}
 use mathlib.Core.Bool.{Bool, true, false}
 use mathlib.Core.List.{List}
 use Prim.Native.Nat.{ℕ, ◌+◌, ◌-◌, ◌≤◌}
@@ -16,17 +16,24 @@ use Rattle.meaning.specs.Trace.{Terms, Trace, activities, read_trace}
 use Rattle.meaning.specs.Activity.{Span, bytes_in, size_of, span_of, no_group, nth_activity, activity_group}
 use Rattle.meaning.proofs.Sound.{sound}
 use Rattle.trace.specs.Groups.{whole_group, counted}
-use Rattle.trace.specs.Locations.{traced}
-use Rattle.trace.proofs.Locating.{nth_at}
+use Rattle.trace.specs.Locations.{traced_by}
+use Rattle.trace.specs.declared.groups.Group.{Group}
+use Rattle.trace.specs.declared.location.Traced.{Traced}
+use Rattle.trace.proofs.Locating.{found, nth_at, traced_refused}
 use Rattle.activities.specs.Spans.{span_in}
 use Rattle.activities.specs.declared.group.Span.{Span as Handed}
 
 -- THE ACTIVITY GROUP that goes with the trace
-pub activity_traced : (n : ℕ) (m : Part) (r : Result Trace)
-    → record { place = (traced n m r).activity.place; length = (traced n m r).activity.length } ≡ span_of (nth_activity r n)
-unfolding counted whole_group size_of
-activity_traced n m (accepted t) = refl
-activity_traced n m (refused k p) = refl
+module _ (n : ℕ) (tm : Terms) (buf : List ℕ) (len : ℕ) where
+  pub activity_traced : (o : Traced) → accepted o ≡ traced_by n tm buf len → record { place = o.activity.place; length = o.activity.length } ≡ activity_group tm buf len n
+  unfolding activity_group counted whole_group size_of
+  activity_traced o h =
+      let f = found n tm buf len o h in
+      ap (λ (g : Group). record { place = g.place; length = g.length }) f.activity ∙ rw f.read refl
+
+  pub activity_lost : (k p : ℕ) → refused k p ≡ traced_by n tm buf len → record { place = 0; length = 0 } ≡ activity_group tm buf len n
+  unfolding activity_group size_of
+  activity_lost k p h = rw (traced_refused n tm buf len k p h) refl
 
 -- it lies in the message
 span_in_lem : (tm : Terms) (buf : List ℕ) (len : ℕ) (t : Trace) → read_trace tm buf len ≡ accepted t → (n : ℕ) → (span_of (get_or (activities t.rows) n no_group)).place + (span_of (get_or (activities t.rows) n no_group)).length ≤ length buf

@@ -1,16 +1,14 @@
-use Rattle.std.proofs.Common.{◌∙◌, sym, ap, length, arith}
-use Rattle.activities.proofs.Namings.{kept_stop, kept_next, kept-none}
+use Rattle.std.proofs.Common.{◌∙◌, sym, ap, length}
+use Rattle.activities.proofs.Namings.{kept_stop, kept_next, kept_none}
 use Rattle.activities.proofs.names.kept.Goals as goal
 
 pub returns-then-not-is_pad : goal.returns-then-not-is_pad
 returns-then-not-is_pad c =
-    let a = c.args in
-    sym (ap length c.loop-n.invariant.1 ∙ kept_stop a.msg.now a.place c.loop-n.n (omega arith) (omega arith) (cc))
+    sym (ap length (c.loop-left.invariant ∙ kept_stop c.loop-left.left.now c.in-len1-up.len_at_least (sym c.is_pad.ensures ∙ c.if-not-is_pad.true)))
 
-pub loop-n-preserved : goal.loop-n-preserved
-loop-n-preserved c =
-    let a = c.args in
-    (omega arith, c.loop-n.invariant.1 ∙ kept_next a.msg.now a.place c.loop-n.n (omega arith) (omega arith) (cc))
+pub loop-left-preserved : goal.loop-left-preserved
+loop-left-preserved c =
+    c.loop-left.invariant ∙ kept_next c.loop-left.left.now c.in-len1-up.len_at_least (sym c.is_pad.ensures ∙ c.if-not-is_pad.false)
 
 pub returns : goal.returns
-returns c = sym (ap length c.loop-n.invariant.1 ∙ kept-none c.args.msg.now c.args.place c.loop-n.n (omega arith))
+returns c = sym (ap length c.loop-left.invariant ∙ kept_none c.loop-left.left.now c.in_default.len_below)
