@@ -1,5 +1,5 @@
 // Whether an event may be done: its answer, found before any byte is written.
-ghost use Rattle.std.specs.Prelude.{◌≡◌, not, ◌&&◌, cond, ◌+◌, ◌≤◌, ◌<◌, leb};
+ghost use Rattle.std.specs.Prelude.{◌≡◌, not, ◌&&◌, ◌+◌, ◌≤◌, ◌<◌, leb};
 ghost use Rattle.meaning.specs.Layout.{room_for};
 ghost use Rattle.meaning.specs.Event.{counter_sum, over_limit, reply_owed, report_length, done_by, decide as decide_on};
 ghost use Rattle.verdict.specs.Plans.{planned, done_of, answer_of};
@@ -35,6 +35,7 @@ fn total(values: [u32; 8]) -> u64
 }
 
 // A limit is set, and one more activity is above it.
+#[tactic(auto, unfolding(meaning::specs::Event::over_limit))]
 fn over_limit(values: [u32; 8]) -> bool
     ensures { result ≡ over_limit values }
 {
@@ -67,13 +68,6 @@ fn lacks_report(reports: bool, size: usize, reserve: usize) -> bool
     reports && reserve < HEADER + size
 }
 
-// `n` if it is wanted, else 0.
-fn if_due(due: bool, n: usize) -> usize
-    ensures { result ≡ cond due n 0 }
-{
-    if due { n } else { 0 }
-}
-
 // What is done where nothing speaks against it.
 fn carried_out(plan: Plan, size: usize, len: usize) -> Done
     requires { (size ≤ 65500) × (len ≤ 65536) }
@@ -82,13 +76,14 @@ fn carried_out(plan: Plan, size: usize, len: usize) -> Done
     Done {
         counter: plan.counter,
         appended: plan.appends,
-        report: if_due(plan.reports, HEADER + size),
-        message: len + if_due(plan.appends, size),
+        report: if plan.reports { HEADER + size } else { 0 },
+        message: if plan.appends { len + size } else { len },
     }
 }
 
 // The answer to an event with a sound group of `size` bytes, on a trace with these values and `len` bytes, in a buffer of
 // `room` bytes, with a report buffer of `reserve` bytes.
+#[tactic(auto, unfolding(meaning::specs::Event::decide))]
 pub fn decide(
     values: [u32; 8],
     plan: Plan,

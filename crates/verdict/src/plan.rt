@@ -105,6 +105,7 @@ pub fn plan_discontinuity() -> Plan
 }
 
 // What is due for an activity, by the values of the trace. The group itself plays no part.
+#[tactic(auto, unfolding(meaning::specs::Event::plan_of, meaning::specs::Event::reported, meaning::specs::Event::accumulated))]
 pub fn plan_activity(values: [u32; 8], level: Level, asked: bool, settings: Settings) -> Plan
     ensures { PlansActivity result values level asked settings }
 {
