@@ -3,14 +3,13 @@ ghost use Rattle.std.specs.Prelude.{◌≡◌, ◌∷◌, [], ◌+◌, ◌≤◌
 ghost use Rattle.meaning.specs.Bytes.{words, splice};
 ghost use Rattle.meaning.specs.Layout.{no_embedding};
 ghost use Rattle.meaning.specs.Compose.{composed as composed_of, compose as compose_of};
-ghost use Rattle.refusals.specs.Refusals.{answer};
-ghost use Rattle.compose.specs.Composes.{sound as sound_of, composed_into, plain_terms};
+ghost use Rattle.compose.specs.Composes.{composed_into, plain_terms};
 ghost use Rattle.attributes.specs.Terms.{terms_of};
 ghost use Rattle.layout.specs.Layouts.{embedding_in};
 
 use attributes::{MQGACF_TRACE_ROUTE, Terms, in_range, sheet_ok};
 use header::{Kind, put_header};
-use layout::{Embedding, laid_out_length, put_around};
+use layout::{Embedding, Form, Layout, laid_out_length, no_embedding, put_around};
 use refusals::Refusal;
 use structure::{MQCFT_GROUP, MQCFT_INTEGER};
 use wire::put_number;
@@ -41,36 +40,10 @@ fn put_trace(buf: &mut [u8], sheet: [u32; 8], values: [u32; 8])
     }
 }
 
-// The sheet is sound and the values are in range, or 17, then 8. It is compiled into both who ask it: as a call it makes composing
-// take a quarter longer.
-#[inline(always)]
-fn sound(sheet: [u32; 8], values: [u32; 8]) -> Result<(), Refusal>
-    ensures { answer result ≡ sound_of sheet values }
-{
-    if !sheet_ok(sheet) {
-        return Err(Refusal::BadSheet);
-    }
-    if !in_range(values) {
-        return Err(Refusal::BadAttribute);
-    }
-    Ok(())
-}
-
-// COMPOSE A PLAIN MESSAGE: what `compose` does for a plain layout, which answers the length written, or 17, 8 or 12. It is a
-// function of its own because what an embedded message needs beside would make a plain one take a quarter longer.
-pub fn compose_plain(sheet: [u32; 8], values: [u32; 8], buf: &mut [u8]) -> Result<usize, Refusal>
-    ensures { composed_into result buf.new ≡ compose_of (plain_terms sheet) values no_embedding [] buf.old }
-{
-    sound(sheet, values)?;
-    if buf.len() < COMPOSED {
-        return Err(Refusal::NoRoom);
-    }
-    put_trace(buf, sheet, values);
-    Ok(COMPOSED)
-}
-
 // COMPOSE: writes the message to the start of the buffer: embedded, the header and the user data around the part. It answers the
-// length written, or 17, 8 or 12. A refusal changes nothing.
+// length written, or 17, 8 or 12. A refusal changes nothing. It is compiled into those who ask it, so that a plain message pays
+// nothing for what an embedded one needs beside: as a call it takes a quarter longer.
+#[inline(always)]
 pub fn compose(
     terms: Terms,
     values: [u32; 8],
@@ -80,9 +53,22 @@ pub fn compose(
 ) -> Result<usize, Refusal>
     ensures { composed_into result buf.new ≡ compose_of (terms_of terms) values (embedding_in embedding) user.now buf.old }
 {
-    sound(terms.sheet, values)?;
+    if !sheet_ok(terms.sheet) {
+        return Err(Refusal::BadSheet);
+    }
+    if !in_range(values) {
+        return Err(Refusal::BadAttribute);
+    }
     let length = laid_out_length(terms.layout, COMPOSED, user.len(), buf.len())?;
     let start = put_around(buf, terms.layout, embedding, COMPOSED, user);
     put_trace(&mut buf[start..], terms.sheet, values);
     Ok(length)
+}
+
+// COMPOSE A PLAIN MESSAGE: its part, with nothing around it.
+pub fn compose_plain(sheet: [u32; 8], values: [u32; 8], buf: &mut [u8]) -> Result<usize, Refusal>
+    ensures { composed_into result buf.new ≡ compose_of (plain_terms sheet) values no_embedding [] buf.old }
+{
+    let layout = Layout { form: Form::Plain };
+    compose(Terms { layout, sheet }, values, no_embedding(), &[], buf)
 }
