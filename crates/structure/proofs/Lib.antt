@@ -1,4 +1,2 @@
-mod Lengths
-mod Soundness
+pub mod Soundness
 pub mod Extents
-mod ByType

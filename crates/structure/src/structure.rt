@@ -1,7 +1,7 @@
 // One structure of a message.
 ghost use Rattle.std.specs.Prelude.{◌≡◌, cond, ◌&&◌, ◌+◌, eqb, ltb, length};
 ghost use Rattle.meaning.specs.Names.{MQCFT_GROUP, most_depth, two_to31};
-ghost use Rattle.meaning.specs.Structure.{judged, structure_at};
+ghost use Rattle.meaning.specs.Structure.{structure_at};
 ghost use Rattle.meaning.specs.Bytes.{whole};
 ghost use Rattle.refusals.specs.Refusals.{answered};
 ghost use Rattle.structure.specs.Rules.{Fields};
@@ -51,17 +51,15 @@ fn too_short(s: &[u8], place: usize) -> bool
 
 // The structure ends where the bytes do or before, and its length is a multiple of 4 and keeps its type's rule. No rule allows
 // less than 16 bytes, so that its fields up to `first`, the one at 12, are there.
+#[tactic(auto, using(crate::proofs::Soundness::tiny), unfolding(crate::specs::Rows::sound_in, crate::specs::Rules::field_of, meaning::specs::Bytes::word))]
 fn is_sound(s: &[u8], place: usize, kind: u32, size: u32, first: u32) -> bool
     requires { Fields s.now place (length s.now) first }
     ensures { result ≡ sound_in (whole s.now) place kind size }
 {
-    if s.len() < place + size as usize {
-        return false;
-    }
-    if size < 16 {
-        return false;
-    }
-    size % 4 == 0 && length_kept(s, place, size, first, rule_of(kind))
+    place + size as usize <= s.len()
+        && 16 <= size
+        && size % 4 == 0
+        && length_kept(s, place, size, first, rule_of(kind))
 }
 
 // A group may not be deeper than 8; other structures may.
@@ -78,20 +76,8 @@ fn members_of(kind: u32, first: u32) -> u32
     if kind == MQCFT_GROUP { first } else { 0 }
 }
 
-// 3 comes before 4: a structure that is not sound is 3, however deep.
-fn verdict(sound: bool, deep: bool, row: Row) -> Result<Row, Refusal>
-    ensures { answered row_of result ≡ judged sound deep row.place (row_of row) }
-{
-    if !sound {
-        return Err(Refusal::BadStructure(row.place));
-    }
-    if deep {
-        return Err(Refusal::TooDeep(row.place));
-    }
-    Ok(row)
-}
-
 // The structure at `place`, of this depth; or 3 or 4. Any place and depth may be asked for.
+#[tactic(auto, using(meaning::proofs::Structures::structure_short), unfolding(crate::specs::Rows::sound_in, meaning::specs::Structure::length_rule, meaning::specs::Structure::structure_at, meaning::specs::Structure::judge, meaning::specs::Bytes::word))]
 pub fn structure_at(s: &[u8], place: usize, depth: u32) -> Result<Row, Refusal>
     ensures { answered row_of result ≡ structure_at (whole s.now) place depth }
 {
@@ -101,16 +87,21 @@ pub fn structure_at(s: &[u8], place: usize, depth: u32) -> Result<Row, Refusal>
     let kind = number_at(s, place);
     let size = number_at(s, place + 4);
     let first = number_at(s, place + 12);
-    let row = Row {
+    // 3 comes before 4: a structure that is not sound is 3, however deep
+    if !is_sound(s, place, kind, size, first) {
+        return Err(Refusal::BadStructure(place));
+    }
+    if too_deep(kind, depth) {
+        return Err(Refusal::TooDeep(place));
+    }
+    Ok(Row {
         depth,
         place,
         kind,
         parameter: number_at(s, place + 8),
         size,
         members: members_of(kind, first),
-    };
-    let sound = is_sound(s, place, kind, size, first);
-    verdict(sound, too_deep(kind, depth), row)
+    })
 }
 
 // A group keeps the table's rule with its length and its count.
@@ -124,6 +115,7 @@ fn group_kept(size: u32, first: u32) -> bool
 // with two fields left out, because it is the fast form: a walk asks this of each structure that it meets, so it is kept
 // small enough to be compiled into the walk. Integers and groups, which most structures are, are judged at once, and how far
 // they reach is not read but known, so that the walk does not wait for it; all else goes by the table.
+#[tactic(auto, using(meaning::proofs::Structures::structure_short), unfolding(crate::specs::Rows::sound_in, meaning::specs::Structure::structure_at, meaning::specs::Structure::judge, meaning::specs::Structure::length_rule, meaning::specs::Bytes::word))]
 pub fn extent_at(s: &[u8], place: usize, depth: u32) -> Result<Extent, Refusal>
     ensures { answered extent_of result ≡ reach_of (structure_at (whole s.now) place depth) }
 {

@@ -65,6 +65,7 @@ fn product(n: u32, m: u32) -> u64
 }
 
 // The structure at `place` keeps the rule with its length, `size`. `first` is its field at 12, which every structure has.
+#[tactic(auto, unfolding(crate::specs::Rules::field_of))]
 pub fn length_kept(s: &[u8], place: usize, size: u32, first: u32, rule: Rule) -> bool
     requires { Fields s.now place (place + size) first }
     ensures { result ≡ kept rule size (field_of s.now place size) }
@@ -87,7 +88,7 @@ pub fn length_kept(s: &[u8], place: usize, size: u32, first: u32, rule: Rule) ->
             }
             let n = number_at(s, place + 16);
             let each = number_at(s, place + 20);
-            n < TWO_TO_31 && (each < TWO_TO_31 && 24 + product(n, each) <= whole)
+            n < TWO_TO_31 && each < TWO_TO_31 && 24 + product(n, each) <= whole
         }
         Rule::Group => first < TWO_TO_31 && size == 16,
         Rule::Unknown => false,
