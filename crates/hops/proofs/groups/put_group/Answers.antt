@@ -1,7 +1,6 @@
 -- The line is made of the parts that were handed out.
 use Rattle.std.proofs.Common.{◌≡◌, ◌+◌, sym, length}
 use Rattle.meaning.specs.Activity.{activity_group, name_of}
-use Rattle.layout.specs.Layouts.{layout_of}
 use Rattle.attributes.specs.Terms.{terms_of}
 use Rattle.text.proofs.Printed.{wrote_as, room_as}
 use Rattle.activities.proofs.Namings.{gives_bytes}
@@ -12,7 +11,7 @@ use Rattle.hops.proofs.groups.put_group.Goals as goal
 pub put_hop-requires : goal.put_hop-requires
 put_hop-requires c =
     let a = c.args in
-    let tm = terms_of (layout_of a.layout) a.sheet in
+    let tm = terms_of a.terms in
     let size : length c.activity_group-group.result.now ≡ (activity_group tm a.msg.now (length a.msg.now) a.n).length =
     group_length tm a.msg _ a.n a.place c.activity_group-group.ensures c.requires.placed c.requires.within in
     let line : hop_line (a.n + 1) a.place (length c.activity_group-group.result.now) c.named_string-name.result.now ≡ hop_of tm a.msg.now a.id a.n =
@@ -23,7 +22,7 @@ put_hop-requires c =
 pub returns : goal.returns
 returns c =
     let a = c.args in
-    let tm = terms_of (layout_of a.layout) a.sheet in
+    let tm = terms_of a.terms in
     let size : length c.activity_group-group.result.now ≡ (activity_group tm a.msg.now (length a.msg.now) a.n).length =
     group_length tm a.msg _ a.n a.place c.activity_group-group.ensures c.requires.placed c.requires.within in
     let line : hop_line (a.n + 1) a.place (length c.activity_group-group.result.now) c.named_string-name.result.now ≡ hop_of tm a.msg.now a.id a.n =
