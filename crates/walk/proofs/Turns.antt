@@ -1,8 +1,9 @@
 -- One turn of the walk: a structure, what is inside it, then the rest. Both walks of the code go by these laws.
 use mathlib.Core.Path.{◌≡◌, refl, ◌∙◌}
 use mathlib.Core.List.{List, ◌∷◌, ◌++◌}
-use Prim.Native.Nat.{ℕ, ◌+◌}
+use Prim.Native.Nat.{ℕ, ◌+◌, ◌-◌, ◌≤◌, ◌<◌}
 use native.Mathlib.Numerals.{add-one}
+use native.Mathlib.Omega.{arith}
 use Rattle.meaning.specs.Bytes.{Part}
 use Rattle.meaning.specs.Answer.{Result, accepted, refused, and_then}
 use Rattle.meaning.specs.Structure.{Row, structure_at}
@@ -13,6 +14,13 @@ use Rattle.structure.proofs.Extents.{Reaches}
 -- a walk with these rows in front
 abbrev pub behind : List Row → Result Walked → Result Walked
 behind xs w = and_then w (λ y. walked (xs ++ y.rows) y.next)
+
+-- how many structures are left of n, once i are passed: one more than after the next, or none
+pub left : {n i : ℕ} → i < n → n - i ≡ n - (i + 1) + 1
+left h = omega (arith, h)
+
+pub none_left : {n i : ℕ} → n ≤ i → n - i ≡ 0
+none_left h = omega (arith, h)
 
 -- the walk from p over n structures, with the code's numbers: n of them are left, then k
 pub unfolded : (m : Part) (p d n k : ℕ) → n ≡ k + 1
