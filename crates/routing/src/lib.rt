@@ -36,17 +36,19 @@ pub fn read(msg: &[u8], len: usize, terms: Terms) -> Result<Values, Refusal>
 }
 
 // FORWARDING: Read's refusals, then the decision by the values.
+#[tactic(auto, unfolding(meaning::specs::Decision::forwarding))]
 pub fn forward(msg: &[u8], len: usize, terms: Terms, supporting: bool) -> Result<Decision, Refusal>
     ensures { answered decision_of result ≡ forwarding (terms_of terms) msg.now len supporting }
 {
-    let t = trace_of(msg, len, terms, 0)?;
-    forward_by(t.values, supporting)
+    let given = read(msg, len, terms)?;
+    forward_by(given.values, supporting)
 }
 
 // ARRIVAL: Read's refusals, then the decision by the values.
+#[tactic(auto, unfolding(meaning::specs::Decision::arrival))]
 pub fn arrive(msg: &[u8], len: usize, terms: Terms) -> Result<Decision, Refusal>
     ensures { answered decision_of result ≡ arrival (terms_of terms) msg.now len }
 {
-    let t = trace_of(msg, len, terms, 0)?;
-    arrive_by(t.values)
+    let given = read(msg, len, terms)?;
+    arrive_by(given.values)
 }
