@@ -6,7 +6,7 @@ ghost use Rattle.codes.specs.Options.{layout_in};
 ghost use Rattle.gwirandol.specs.Structures.{Tallies, Lists, Steps};
 
 use codes::{coded, given, layout_of, refused};
-use pcf::Cursor;
+use pcf::{Cursor, Stepped};
 
 // CHECK: the number of structures, or 1, 18, or 2 to 5.
 #[unsafe(no_mangle)]
@@ -28,7 +28,9 @@ pub extern "C" fn gw_tally(
 {
     match pcf::tally(buffer, length, layout_of(options)) {
         Ok(tallied) => {
-            *counts = tallied.counts;
+            // an array leaves a struct by a variable: the borrow checker knows no other way
+            let told = tallied.counts;
+            *counts = told;
             given(tallied.number as usize)
         }
         Err(r) => {
@@ -66,8 +68,7 @@ pub extern "C" fn gw_step(
 {
     match pcf::step(buffer, length, layout_of(options), Cursor { place, depth }) {
         Err(r) => u64::from(r.number()),
-        Ok(stepped) => {
-            let s = stepped.row;
+        Ok(Stepped { row: s, next }) => {
             *row = [
                 u64::from(s.depth),
                 s.place as u64,
@@ -75,7 +76,7 @@ pub extern "C" fn gw_step(
                 u64::from(s.parameter),
                 u64::from(s.size),
                 u64::from(s.members),
-                stepped.next as u64,
+                next as u64,
             ];
             0
         }

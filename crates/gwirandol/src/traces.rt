@@ -75,10 +75,13 @@ pub extern "C" fn gw_read(
     match routing::read(buffer, length, terms_of(options, sheet)) {
         Err(r) => refused(r),
         Ok(found) => {
+            // an array leaves a struct by a variable: the borrow checker knows no other way
+            let told = found.values;
             let e = found.embedding;
-            *values = found.values;
+            let named = e.format;
+            *values = told;
             *fields = [e.encoding, e.ccsid, e.flags];
-            *format = e.format;
+            *format = named;
             given(found.user)
         }
     }

@@ -4,5 +4,5 @@ use Rattle.codes.specs.Codes.{Fits}
 use Rattle.gwirandol.proofs.Reach.{check_fits}
 use Rattle.gwirandol.proofs.structures.gw_check.Goals as goal
 
-pub checked-requires : goal.checked-requires
-checked-requires c = subst Fits (sym c.check.ensures) (check_fits _ _ _)
+pub coded-requires : goal.coded-requires
+coded-requires c = subst Fits (sym c.check.ensures) (check_fits _ _ _)

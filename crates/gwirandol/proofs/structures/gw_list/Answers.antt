@@ -4,5 +4,5 @@ use Rattle.codes.specs.Codes.{Fits}
 use Rattle.gwirandol.proofs.Reach.{list_fits}
 use Rattle.gwirandol.proofs.structures.gw_list.Goals as goal
 
-pub listed-requires : goal.listed-requires
-listed-requires c = subst Fits (sym c.list.ensures.answer) (list_fits _ _ _)
+pub coded-requires : goal.coded-requires
+coded-requires c = subst Fits (sym c.list.ensures.answer) (list_fits _ _ _)

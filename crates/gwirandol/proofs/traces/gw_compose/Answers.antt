@@ -5,5 +5,5 @@ use Rattle.codes.specs.Codes.{Fits}
 use Rattle.gwirandol.proofs.Reach.{compose_fits}
 use Rattle.gwirandol.proofs.traces.gw_compose.Goals as goal
 
-pub composed-requires : goal.composed-requires
-composed-requires c = subst Fits (sym (ap (λ (x : Composed). x.answer) c.compose.ensures)) (compose_fits _ _ _ _ _)
+pub coded-requires : goal.coded-requires
+coded-requires c = subst Fits (sym (ap (λ (x : Composed). x.answer) c.compose.ensures)) (compose_fits _ _ _ _ _)
