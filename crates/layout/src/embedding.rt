@@ -19,6 +19,7 @@ pub struct Embedding {
 }
 
 // The eight bytes of Format.
+#[tactic(auto, using(crate::proofs::Laying::format_read))]
 fn format_of(msg: &[u8]) -> [u8; 8]
     requires { 32 ≤ length msg.now }
     ensures { result ≡ (embedding_of embedded (part_of msg.now 32)).format }
@@ -41,6 +42,7 @@ pub fn no_embedding() -> Embedding
 }
 
 // The embedding of a message that was located.
+#[tactic(auto, using(meaning::proofs::Parts::num_part), unfolding(meaning::specs::Layout::embedding_of))]
 pub fn embedding_of(msg: &[u8], layout: Layout) -> Embedding
     requires { start_of (form_of layout.form) ≤ length msg.now }
     ensures { embedding_in result ≡ embedding_of (form_of layout.form) (part_of msg.now (start_of (form_of layout.form))) }
@@ -92,6 +94,7 @@ pub fn laid_out_length(
 }
 
 // Writes what stands around a part of `size` bytes, and answers where the part is to start. A plain message has nothing there.
+#[tactic(auto, using(crate::proofs::Laying::around_embedded))]
 pub fn put_around(buf: &mut [u8], layout: Layout, e: Embedding, size: usize, user: &[u8]) -> usize
     requires { (laid_out_length (form_of layout.form) (length user.now) size ≤ length buf.old) × (size ≤ 65500) }
     ensures { Around (form_of layout.form) (embedding_in e) size user.now buf.old buf.new result }
@@ -108,6 +111,7 @@ pub fn put_around(buf: &mut [u8], layout: Layout, e: Embedding, size: usize, use
 }
 
 // A part that ended at `end` is `by` bytes longer: the embedded header says so, if there is one.
+#[tactic(auto, unfolding(meaning::specs::Layout::lengthened, meaning::specs::Bytes::store))]
 pub fn lengthen(buf: &mut [u8], layout: Layout, end: usize, by: usize)
     requires { (start_of (form_of layout.form) ≤ length buf.old) × (end + by < 4294967296) }
     ensures { buf.new ≡ lengthened (form_of layout.form) (part_of buf.old end) by buf.old }

@@ -88,6 +88,7 @@ fn embedded_ok(msg: &[u8]) -> bool
 }
 
 // THE PART of the message in the first `len` bytes, or 1, then 18.
+#[tactic(auto, using(crate::proofs::Locations::short, crate::proofs::Locations::found_plain, crate::proofs::Locations::unsound, crate::proofs::Locations::found_embedded))]
 pub fn locate(msg: &[u8], len: usize, layout: Layout) -> Result<Part, Refusal>
     ensures { answered (part_at msg.now) result ≡ located (layout_of layout) msg.now len }
 {
