@@ -72,6 +72,7 @@ fn put_word(out: &mut [u8], at: usize, word: &[u8]) -> usize
 }
 
 // The line of a structure: depth, place, type, parameter, length.
+#[tactic(auto, using(crate::proofs::Laws::front, crate::proofs::Laws::behind), unfolding(crate::specs::Lines::line_text, meaning::specs::Listing::row_line))]
 pub fn put_line(out: &mut [u8], at: usize, line: Line) -> usize
     requires { Room out.old at (line_text line) }
     ensures { Wrote out.old at (line_text line) out.new result }
@@ -84,6 +85,7 @@ pub fn put_line(out: &mut [u8], at: usize, line: Line) -> usize
 }
 
 // The header line: type, command, count, length.
+#[tactic(auto, using(crate::proofs::Laws::front, crate::proofs::Laws::behind), unfolding(crate::specs::Lines::header_text))]
 pub fn put_header(out: &mut [u8], at: usize, kind: u32, command: u32, count: u32, len: u32) -> usize
     requires { Room out.old at (header_text kind command count len) }
     ensures { Wrote out.old at (header_text kind command count len) out.new result }
@@ -96,6 +98,7 @@ pub fn put_header(out: &mut [u8], at: usize, kind: u32, command: u32, count: u32
 }
 
 // The last line: the number of structures.
+#[tactic(auto, using(crate::proofs::Laws::front, crate::proofs::Laws::behind), unfolding(meaning::specs::Listing::end_line))]
 pub fn put_end(out: &mut [u8], at: usize, count: u32) -> usize
     requires { Room out.old at (end_line count) }
     ensures { Wrote out.old at (end_line count) out.new result }
@@ -105,6 +108,7 @@ pub fn put_end(out: &mut [u8], at: usize, count: u32) -> usize
 }
 
 // The one line of a refusal: its number and its place.
+#[tactic(auto, using(crate::proofs::Laws::front, crate::proofs::Laws::behind), unfolding(meaning::specs::Listing::refusal_line))]
 pub fn put_refusal(out: &mut [u8], at: usize, number: u32, place: u32) -> usize
     requires { Room out.old at (refusal_line number place) }
     ensures { Wrote out.old at (refusal_line number place) out.new result }
