@@ -52,6 +52,7 @@ pub fn put_decimal(out: &mut [u8], at: usize, v: u32) -> usize
 }
 
 // A number and the byte behind it.
+#[tactic(auto, using(crate::proofs::Laws::column_length))]
 pub fn put_column(out: &mut [u8], at: usize, v: u32, behind: u8) -> usize
     requires { Room out.old at (column v behind) }
     ensures { Wrote out.old at (column v behind) out.new result }
