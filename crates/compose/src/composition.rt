@@ -18,6 +18,7 @@ use wire::put_number;
 const COMPOSED: usize = 180;
 
 // Writes four numbers from `at` on: a group's header, or an integer.
+#[tactic(auto, using(crate::proofs::Composing::four_words))]
 fn put_four(buf: &mut [u8], at: usize, kind: u32, size: u32, parameter: u32, last: u32)
     requires { at + 16 ≤ length buf.old }
     ensures { buf.new ≡ splice buf.old at (words (kind ∷ size ∷ parameter ∷ last ∷ [])) }

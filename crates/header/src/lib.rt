@@ -21,6 +21,7 @@ const FIELDS: [[u32; 9]; 2] = [
     [12, 36, 3, 69, 1, 1, 0, 0, 1],
 ];
 
+#[tactic(auto, unfolding(meaning::specs::Compose::header_fields, meaning::specs::Compose::trace_header_fields, meaning::specs::Compose::report_header_fields))]
 fn field(kind: Kind, i: usize) -> u32
     requires { i < 9 }
     ensures { result ≡ get_or (fields_of kind) i 0 }
