@@ -78,13 +78,17 @@ pub fn survey(s: &[u8], first: usize, count: u32, n: usize) -> Result<Tops, Refu
     let mut routes = NONE_YET;
     let mut activities = NONE_YET;
     for _ in 0..count {
-        let Crossing { row, behind } = pass(s, at, 1)?;
-        // asked once, out here: what is counted then stays in registers while other structures are gone over
-        if row.kind == MQCFT_GROUP {
-            routes = count_row(routes, MQGACF_TRACE_ROUTE, 0, row, behind);
-            activities = count_row(activities, MQGACF_ACTIVITY, n, row, behind);
+        match pass(s, at, 1) {
+            Err(r) => return Err(r),
+            Ok(Crossing { row, behind }) => {
+                // asked once, out here: what is counted then stays in registers while other structures are gone over
+                if row.kind == MQCFT_GROUP {
+                    routes = count_row(routes, MQGACF_TRACE_ROUTE, 0, row, behind);
+                    activities = count_row(activities, MQGACF_ACTIVITY, n, row, behind);
+                }
+                at = behind;
+            }
         }
-        at = behind;
     }
     Ok(Tops {
         behind: at,
