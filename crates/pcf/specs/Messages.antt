@@ -53,8 +53,8 @@ pub record HeaderRead (msg : List ℕ) (o : Opening) : Type 0 where
 abbrev pub stepped_of : Stepped → Step
 stepped_of s = record { row = row_of s.row; next = s.next }
 
-abbrev pub number_of : Tallied → ℕ
-number_of t = t.number
+abbrev pub total_of : Tallied → ℕ
+total_of t = t.number
 
 -- the counts of a tally, all zero if it was refused
 abbrev pub counts_of : Result Tallied Refusal → List ℕ
@@ -63,10 +63,10 @@ counts_of (Err r) = replicate types 0
 
 -- t is the answer and the counts for these rows, or for what stands in their place
 pub record RowsTallied (rows : Meant (List Row)) (t : Result Tallied Refusal) : Type 0 where
-  pub answer : answered number_of t ≡ and_then rows (λ rs. accepted (length rs))
+  pub answer : answered total_of t ≡ and_then rows (λ rs. accepted (length rs))
   pub counts : counts_of t ≡ tally_of rows
 
 -- t is the check's answer and the tally of the message
 pub record TalliedAs (l : Layout) (buf : List ℕ) (len : ℕ) (t : Result Tallied Refusal) : Type 0 where
-  pub answer : answered number_of t ≡ check l buf len
+  pub answer : answered total_of t ≡ check l buf len
   pub counts : counts_of t ≡ tally l buf len

@@ -3,7 +3,7 @@
 // to the lender has no name that a proof could cite.
 #![tactic(auto)]
 
-ghost use Rattle.std.specs.Prelude.{◌≡◌, ◌∷◌, [], ◌<◌, length};
+ghost use Rattle.std.specs.Prelude.{◌≡◌, length};
 ghost use Rattle.meaning.specs.Listing.{decimal, column, end_line, refusal_line};
 ghost use Rattle.text.specs.Wrote.{Room, Wrote};
 ghost use Rattle.text.specs.Lines.{line_text, header_text};
