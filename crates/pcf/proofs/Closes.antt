@@ -14,7 +14,7 @@ use Rattle.meaning.specs.Answer.{Result, accepted, refused, and_then}
 use Rattle.meaning.specs.Structure.{Row}
 use Rattle.meaning.specs.Walk.{Walked, walked, walk}
 use Rattle.meaning.specs.Layout.{Layout}
-use Rattle.meaning.specs.Message.{closed, check, tally, scan, counts_from, types}
+use Rattle.meaning.specs.Message.{closed, check, counts_from, types}
 use Rattle.meaning.proofs.Tests.{clash}
 use Rattle.meaning.proofs.Walks.{walks}
 use Rattle.meaning.proofs.Tallies.{total_counts, walks_kinds}
@@ -26,7 +26,7 @@ use Rattle.walk.proofs.Counting.{counted}
 use Rattle.walk.proofs.Numbering.{Past, past_rows}
 use Rattle.layout.specs.Layouts.{part_at}
 use Rattle.layout.specs.declared.part.Part.{Part as PartIn}
-use Rattle.pcf.specs.Messages.{opened, structures_of, structure_count, RowsTallied, TalliedAs}
+use Rattle.pcf.specs.Messages.{opened, structures_of, structure_count, RowsTallied}
 use Rattle.pcf.proofs.Openings.{walk_part, scan_opened}
 
 -- the sum from the front on, and from the end on
@@ -84,7 +84,7 @@ module _ (m : Part) (p d n : ℕ) where
       by (accepted x) f = absurd (clash (cc))
       by (refused j r) f = cc
 
--- THE CHECK AND THE TALLY, by what comes before the structures
+-- THE CHECK, by what comes before the structures
 module _ (l : Layout) (buf : List ℕ) (len : ℕ) where
   pub check_shut : (k q : ℕ) → refused k q ≡ opened l buf len → refused k q ≡ check l buf len
   unfolding check
@@ -93,16 +93,6 @@ module _ (l : Layout) (buf : List ℕ) (len : ℕ) where
   pub check-opened : (m : Part) (n : ℕ) → accepted (record { part = m; count = n }) ≡ opened l buf len → structure_count m n ≡ check l buf len
   unfolding check
   check-opened m n e = rw (scan_opened l buf len, ← e) refl
-
-  said : (t : _) → RowsTallied (scan l buf len) t → TalliedAs l buf len t
-  unfolding check tally
-  said t h = record { answer = h.answer; counts = h.counts }
-
-  pub tally_shut : (r : Refusal) → refusal r ≡ opened l buf len → TalliedAs l buf len (Err r)
-  tally_shut r e = said _ (rw (scan_opened l buf len, ← e) (record { answer = refl; counts = refl }))
-
-  pub tally-opened : (m : Part) (n : ℕ) → accepted (record { part = m; count = n }) ≡ opened l buf len → (t : _) → RowsTallied (structures_of m n) t → TalliedAs l buf len t
-  tally-opened m n e t h = said t (rw (scan_opened l buf len, ← e) h)
 
 -- THE ROWS of a part with a sound header, by the walk over the structures
 module _ (buf : List ℕ) (p : PartIn) (n : ℕ) (h : p.end ≤ length buf) where

@@ -2,10 +2,10 @@
 use mathlib.Core.Path.{◌≡◌, refl, sym, ap, ◌∙◌}
 use mathlib.Core.Bool.{Bool, true, false}
 use mathlib.Core.List.{List}
-use Prim.Native.Nat.{ℕ, ◌+◌, ◌≤◌}
+use Prim.Native.Nat.{ℕ, ◌≤◌}
 use native.Mathlib.Omega.{arith}
 use lib.ListN.{length, take}
-use Rattle.meaning.specs.Bytes.{Part, whole, part_of, number, num}
+use Rattle.meaning.specs.Bytes.{Part, whole, part_of}
 use Rattle.meaning.specs.Names.{bad_header}
 use Rattle.meaning.specs.Answer.{Result, accepted, refused, and_then}
 use Rattle.meaning.specs.Structure.{structure_at}
@@ -14,7 +14,6 @@ use Rattle.meaning.specs.Message.{parameter_count, header_ok, rows_of, scan}
 use Rattle.meaning.specs.Walk.{walk}
 use Rattle.meaning.proofs.Fuel.{walk_from, structure_from}
 use Rattle.meaning.proofs.Tests.{unless_accepted, then_accepted}
-use Rattle.meaning.proofs.Parts.{num_part}
 use Rattle.meaning.proofs.Layouts.{inside}
 use Rattle.wire.proofs.Parts.{whole-take}
 use Rattle.layout.specs.Layouts.{part_at}
@@ -34,18 +33,6 @@ module _ (l : Layout) (buf : List ℕ) (len : ℕ) where
   reaches p e =
       let i = inside l buf len (part_at buf p) (sym e) in
       record { room = i.room; there = omega (arith, i.within, i.there); most = omega (arith, i.within, i.most) }
-
-  module _ (p : PartIn) (e : accepted (part_at buf p) ≡ located l buf len) where
-    pub unheaded : header_ok (part_at buf p) ≡ false → refused bad_header 0 ≡ opened l buf len
-    unfolding opened opened_in
-    unheaded h = rw (sym e, h) refl
-
-    pub headed : header_ok (part_at buf p) ≡ true → (n : ℕ) → n ≡ number buf (p.start + 32)
-        → accepted (record { part = part_at buf p; count = n }) ≡ opened l buf len
-    unfolding opened opened_in
-    headed h n f =
-        let g : num (part_at buf p) (p.start + 32) ≡ n = num_part buf p.end (p.start + 32) (omega (arith, (reaches p e).room)) ∙ sym f in
-        rw (sym e, h, g) refl
 
   -- a part that was opened was located, and has a sound header with this count
   pub record Begun (o : Opened) : Type 0 where

@@ -40,16 +40,18 @@ pub struct Stepped {
 }
 
 // StrucLength 36, Version 1 to 3, ParameterCount below 2^31.
+#[tactic(auto, using(meaning::proofs::Parts::num_part), unfolding(meaning::specs::Message::header_ok))]
 fn header_ok(msg: &[u8], opening: Opening) -> bool
     requires { HeaderRead msg.now opening }
     ensures { result ≡ header_ok (part_at msg.now opening.part) }
 {
     let start = opening.part.start;
     let version = number_at(msg, start + 8);
-    number_at(msg, start + 4) == 36 && (1 <= version && (version <= 3 && opening.count < TWO_TO_31))
+    number_at(msg, start + 4) == 36 && 1 <= version && version <= 3 && opening.count < TWO_TO_31
 }
 
 // What comes before the structures: the part and the ParameterCount of its sound header, or 1, 18 or 2.
+#[tactic(auto, using(crate::proofs::Openings::reaches, meaning::proofs::Parts::num_part), unfolding(crate::specs::Messages::opened, crate::specs::Messages::opened_in))]
 pub fn opened(msg: &[u8], len: usize, layout: Layout) -> Result<Opening, Refusal>
     ensures { answered (opening_of msg.now) result ≡ opened (layout_of layout) msg.now len }
 {
@@ -65,6 +67,7 @@ pub fn opened(msg: &[u8], len: usize, layout: Layout) -> Result<Opening, Refusal
 
 // The number of structures of a part with a sound header, which they fill, or 3, 4 or 5. The check and the listing ask it, each
 // behind `opened`: so the check is one function with one caller, which is compiled into that.
+#[tactic(auto, using(crate::proofs::Closes::number_fault))]
 pub fn structure_count(msg: &[u8], opening: Opening) -> Result<u32, Refusal>
     requires { Reaches msg.now opening.part }
     ensures { answer result ≡ structure_count (part_at msg.now opening.part) opening.count }
@@ -79,6 +82,7 @@ pub fn structure_count(msg: &[u8], opening: Opening) -> Result<u32, Refusal>
 }
 
 // CHECK: the number of structures of a message, or 1, 18, or 2 to 5.
+#[tactic(auto, using(crate::proofs::Openings::opened_reaches, crate::proofs::Openings::scan_opened), unfolding(meaning::specs::Message::check))]
 pub fn check(msg: &[u8], len: usize, layout: Layout) -> Result<u32, Refusal>
     ensures { answer result ≡ check (layout_of layout) msg.now len }
 {
@@ -117,6 +121,7 @@ fn structures(msg: &[u8], opening: Opening) -> Result<Tallied, Refusal>
 }
 
 // TALLY: how many structures of each type a message has, beside the check's answer.
+#[tactic(auto, using(crate::proofs::Openings::opened_reaches, crate::proofs::Openings::scan_opened), unfolding(meaning::specs::Message::check, meaning::specs::Message::tally))]
 pub fn tally(msg: &[u8], len: usize, layout: Layout) -> Result<Tallied, Refusal>
     ensures { TalliedAs (layout_of layout) msg.now len result }
 {
@@ -125,6 +130,7 @@ pub fn tally(msg: &[u8], len: usize, layout: Layout) -> Result<Tallied, Refusal>
 
 // ONE STRUCTURE AT A TIME: the structure at any place, taken to have any depth, and the place behind it; or 1 or 18, then 3 or
 // 4. For a group that is the place of its first member.
+#[tactic(auto, using(crate::proofs::Openings::reaches, crate::proofs::Openings::structure_part), unfolding(meaning::specs::Message::step))]
 pub fn step(msg: &[u8], len: usize, layout: Layout, at: Cursor) -> Result<Stepped, Refusal>
     ensures { answered stepped_of result ≡ step (layout_of layout) msg.now len at.place at.depth }
 {

@@ -1,15 +1,9 @@
 -- The structures that were passed over, and what the meaning makes of their end.
 use Rattle.std.proofs.Common.{arith}
-use Rattle.std.proofs.lemmas.Result.{err_from_is_err_and}
 use lib.Seq.{length-take-le}
 use Rattle.walk.proofs.Numbering.{past}
-use Rattle.pcf.proofs.Closes.{number_fault, number_end, number_long}
+use Rattle.pcf.proofs.Closes.{number_end, number_long}
 use Rattle.pcf.proofs.message.structure_count.Goals as goal
-
-pub returns-in_err-passed : goal.returns-in_err-passed
-returns-in_err-passed c =
-    let p = err_from_is_err_and c.from_residual.result c.from_residual.ensures.1 in
-    rw (p.1, p.2) (number_fault c.args.msg.now c.args.opening.part _ c.requires.there _ _ c.in_err-passed.ensures)
 
 pub overflow_cast-result : goal.overflow_cast-result
 overflow_cast-result c =
