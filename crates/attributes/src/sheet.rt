@@ -6,6 +6,7 @@ use structure::TWO_TO_31;
 
 // The number at `i` does not stand again behind it. All tests are made, whatever one of them says: without branches this is
 // short enough to be compiled into those who ask it.
+#[tactic(auto, using(crate::proofs::Sheets::absent_more, crate::proofs::Sheets::absent_all))]
 fn alone(sheet: [u32; 8], i: usize) -> bool
     requires { i < 8 }
     ensures { result ≡ absent (get_or sheet i 0) (drop (i + 1) sheet) }
@@ -19,6 +20,7 @@ fn alone(sheet: [u32; 8], i: usize) -> bool
 }
 
 // The sheet is sound: every number is from 1 to 2^31 - 1 and stands there once.
+#[tactic(auto, using(crate::proofs::Sheets::identifiers_more, crate::proofs::Sheets::identifiers_all, crate::proofs::Sheets::sheet_ok_as))]
 pub fn sheet_ok(sheet: [u32; 8]) -> bool
     ensures { result ≡ sheet_ok sheet }
 {
