@@ -107,13 +107,12 @@ module _ (w : Result Walked) (out₀ : List ℕ) (at : ℕ) (s : List ℕ) (d : 
           room = front _ (room_as (parts h).lines u.due.room);
         }
 
-    -- `more` structures are left behind it
-    pub first_done : (t : List ℕ) (r : Behind) (more : ℕ) → 0 < left → left - 1 ≡ more → length t ≡ length out → RowsDone (walk (whole s) next d 1) out text t r
-        → Rest w out₀ at s d t r.text r.place more
-    first_done t r more h e l x =
+    pub first_done : (t : List ℕ) (r : Behind) → 0 < left → length t ≡ length out → RowsDone (walk (whole s) next d 1) out text t r
+        → Rest w out₀ at s d t r.text r.place (left - 1)
+    first_done t r h l x =
         let y : RowsDone (walked (parts h).rows₁ (parts h).middle) out text t r = done_as (parts h).first x in
         let room = room_as (parts h).lines u.due.room in
-        let others : walk (whole s) r.place d more ≡ walked (parts h).rows₂ u.due.next = rw (y.next, ← e) (parts h).others in
+        let others : walk (whole s) r.place d (left - 1) ≡ walked (parts h).rows₂ u.due.next = rw y.next (parts h).others in
         record {
           due =
               record {

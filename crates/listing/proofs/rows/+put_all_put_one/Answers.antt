@@ -9,7 +9,7 @@ put_all-put_one-behind-requires t c =
 
 pub put_all-loop-preserved : goal.put_all-loop-preserved
 put_all-loop-preserved t c =
-    first_done _ _ _ _ _ _ _ _ _ c.loop.invariant _ _ _ (omega arith) (omega arith) c.put_one-behind.auto.out c.put_one-behind.ensures
+    first_done _ _ _ _ _ _ _ _ _ c.loop.invariant _ _ (omega arith) c.put_one-behind.auto.out c.put_one-behind.ensures
 
 pub put_all-returns : goal.put_all-returns
 put_all-returns t c = all_done _ _ _ _ _ _ _ _ _ c.loop.invariant (omega arith)

@@ -14,4 +14,4 @@ decreases-put_one l = 2 * (10 - l.depth)
 
 abbrev pub invariant-put_all-loop : goal.invariant-put_all-loop
 invariant-put_all-loop l =
-    Rest (walk (whole l.s) l.place l.depth l.count) l.fn.out l.at l.s l.depth l.out l.behind.text l.behind.place (l.count - l.counter)
+    Rest (walk (whole l.s) l.place l.depth l.count) l.fn.out l.at l.s l.depth l.out l.behind.text l.behind.place l.counter
