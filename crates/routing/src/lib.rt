@@ -22,7 +22,9 @@ pub struct Values {
     pub user: usize,
 }
 
-// READ: the eight values, the embedding and the user data's place, or 17, then 1, 18 and 2 to 8.
+// READ: the eight values, the embedding and the user data's place, or 17, then 1, 18 and 2 to 8. It is compiled into those who
+// ask it: as a call it copies what it gives once more.
+#[inline(always)]
 pub fn read(msg: &[u8], len: usize, terms: Terms) -> Result<Values, Refusal>
     ensures { answered values_of result ≡ read_of (terms_of terms) msg.now len }
 {
