@@ -25,8 +25,9 @@ use Rattle.meaning.proofs.Tops.{TopAt, all_at, all_groups, tops_at}
 use Rattle.meaning.proofs.Layouts.{sized}
 use Rattle.layout.specs.Layouts.{part_at}
 use Rattle.layout.specs.declared.part.Part.{Part as PartIn}
-use Rattle.pcf.specs.Messages.{Opened, opened, structures_of, Reaches}
-use Rattle.pcf.proofs.Openings.{Begun as Opening, walk_part, scan_opened, begun, reaches}
+use Rattle.pcf.specs.declared.message.Opening.{Opening}
+use Rattle.pcf.specs.Messages.{Opened, opened, opening_of, structures_of, Reaches}
+use Rattle.pcf.proofs.Openings.{Begun as Opened-as, walk_part, scan_opened, begun, reaches}
 use Rattle.header.specs.Headers.{fields_of, starts_with}
 use Rattle.trace.specs.Passing.{is_sound}
 use Rattle.trace.specs.Groups.{whole_group, counted, tops_of, surveyed}
@@ -224,32 +225,32 @@ module _ (tm : Terms) (buf : List ℕ) (len n : ℕ) where
     trace_unopened k q e = trace_unscanned k q (scan_opened tm.layout buf len ∙ rw (← e) refl)
 
 -- WHAT THE TESTS before the structures have shown: the sheet's, those of the part, and its header's, which has this count
-pub record Begun (tm : Terms) (buf : List ℕ) (len : ℕ) (part : PartIn) (count : ℕ) : Type 0 where
+pub record Begun (tm : Terms) (buf : List ℕ) (len : ℕ) (o : Opening) : Type 0 where
   pub sheeted : sheet_ok tm.sheet ≡ true
-  pub opens : accepted (record { part = part_at buf part; count = count }) ≡ opened tm.layout buf len
+  pub opens : accepted (opening_of buf o) ≡ opened tm.layout buf len
 
-module _ {tm : Terms} {buf : List ℕ} {len : ℕ} {part : PartIn} {count : ℕ} (g : Begun tm buf len part count) where
+module _ {tm : Terms} {buf : List ℕ} {len : ℕ} {o : Opening} (g : Begun tm buf len o) where
   abbrev M : Part
-  M = part_at buf part
+  M = part_at buf o.part
 
-  start : Opening tm.layout buf len (record { part = M; count = count })
+  start : Opened-as tm.layout buf len (opening_of buf o)
   start = begun tm.layout buf len _ (sym g.opens)
 
   -- the part is the message's, and lies in it
   same : part_in tm.layout buf len ≡ M
   same = (sized tm.layout buf len M start.lies).0
 
-  pub lies : Reaches buf part
-  lies = reaches tm.layout buf len part (sym start.lies)
+  pub lies : Reaches buf o.part
+  lies = reaches tm.layout buf len o.part (sym start.lies)
 
   -- what is gone over: the bytes up to the part's end
   abbrev gone : Result Walked
-  gone = walk (whole (take part.end buf)) (part.start + 36) 1 count
+  gone = walk (whole (take o.part.end buf)) (o.part.start + 36) 1 o.count
 
-  scanned : scan tm.layout buf len ≡ and_then gone (closed part.end)
+  scanned : scan tm.layout buf len ≡ and_then gone (closed o.part.end)
   scanned =
-      scan_opened tm.layout buf len ∙ ap (λ (x : Result Opened). and_then x (λ o. structures_of o.part o.count)) (sym g.opens)
-      ∙ ap (λ (x : Result Walked). and_then x (closed part.end)) (walk_part buf part lies.there (part.start + 36) 1 count)
+      scan_opened tm.layout buf len ∙ ap (λ (x : Result Opened). and_then x (λ y. structures_of y.part y.count)) (sym g.opens)
+      ∙ ap (λ (x : Result Walked). and_then x (closed o.part.end)) (walk_part buf o.part lies.there (o.part.start + 36) 1 o.count)
 
   pub trace_halt : (n k q : ℕ) → refused k q ≡ surveyed n gone → refused k q ≡ traced_by n tm buf len
   trace_halt n k q e = trace_unscanned tm buf len n g.sheeted k q (scanned ∙ rw (then_refused gone (tops_of n) k q (sym e)) refl)
@@ -258,17 +259,17 @@ module _ {tm : Terms} {buf : List ℕ} {len : ℕ} {part : PartIn} {count : ℕ}
     t : Told n gone s
     t = told n gone s e
 
-    pub trace_left : (s.behind ≡ part.end → ⊥) → refused left_over s.behind ≡ traced_by n tm buf len
+    pub trace_left : (s.behind ≡ o.part.end → ⊥) → refused left_over s.behind ≡ traced_by n tm buf len
     unfolding closed
-    trace_left d = trace_unscanned tm buf len n g.sheeted left_over s.behind (scanned ∙ rw (t.over, ne_eqb s.behind part.end d) refl)
+    trace_left d = trace_unscanned tm buf len n g.sheeted left_over s.behind (scanned ∙ rw (t.over, ne_eqb s.behind o.part.end d) refl)
 
-    module _ (z : s.behind ≡ part.end) where
-      tree : Walks M (part.start + 36) 1 count t.rows part.end
-      tree = walks_as refl refl z (walks M (part.start + 36) 1 count t.rows s.behind (walk_part buf part lies.there (part.start + 36) 1 count ∙ t.over))
+    module _ (z : s.behind ≡ o.part.end) where
+      tree : Walks M (o.part.start + 36) 1 o.count t.rows o.part.end
+      tree = walks_as refl refl z (walks M (o.part.start + 36) 1 o.count t.rows s.behind (walk_part buf o.part lies.there (o.part.start + 36) 1 o.count ∙ t.over))
 
       whole_rows : scan tm.layout buf len ≡ accepted t.rows
       unfolding closed
-      whole_rows = scanned ∙ ap (λ (x : Result Walked). and_then x (closed part.end)) t.over ∙ rw (eq-eqb s.behind part.end z) refl
+      whole_rows = scanned ∙ ap (λ (x : Result Walked). and_then x (closed o.part.end)) t.over ∙ rw (eq-eqb s.behind o.part.end z) refl
 
       whole-read : read_trace tm buf len ≡ read_rows tm.sheet M t.rows
       unfolding read_trace
@@ -279,27 +280,27 @@ module _ {tm : Terms} {buf : List ℕ} {len : ℕ} {part : PartIn} {count : ℕ}
       trace_whole =
           ap (λ (x : Counted). judged_in tm.sheet M x s.activities.group) t.routes
           ∙ ap (λ (x : Counted). judged_in tm.sheet M (counted MQGACF_TRACE_ROUTE 0 t.rows) x.group) t.activities
-          ∙ sym (rows_read M (part.start + 36) count t.rows tree tm.sheet n) ∙ ap (λ (x : Result Trace). and_then x (λ y. accepted (traced n M y))) (sym whole-read)
+          ∙ sym (rows_read M (o.part.start + 36) o.count t.rows tree tm.sheet n) ∙ ap (λ (x : Result Trace). and_then x (λ y. accepted (traced n M y))) (sym whole-read)
           ∙ ap (λ (x : Part). and_then (read_trace tm buf len) (λ y. accepted (traced n x y))) (sym same)
 
       -- the survey went over the members of the one TraceRoute group
-      route_within : s.routes.count ≡ 1 → Within (take part.end buf) s.routes.group.inside s.routes.group.members
+      route_within : s.routes.count ≡ 1 → Within (take o.part.end buf) s.routes.group.inside s.routes.group.members
       unfolding counted
       route_within =
-          subst (λ (x : Counted). x.count ≡ 1 → Within (take part.end buf) x.group.inside x.group.members) (sym t.routes)
+          subst (λ (x : Counted). x.count ≡ 1 → Within (take o.part.end buf) x.group.inside x.group.members) (sym t.routes)
           (λ i.
           let first : 0 < length (trace_routes t.rows) = omega arith in
           record {
-            sound = ap is_sound (sym (walk_part buf part lies.there _ 2 _) ∙ nth_walk M (part.start + 36) count t.rows tree MQGACF_TRACE_ROUTE 0 first);
-            behind = omega (arith, nth_behind M (part.start + 36) count t.rows tree MQGACF_TRACE_ROUTE 0 first);
+            sound = ap is_sound (sym (walk_part buf o.part lies.there _ 2 _) ∙ nth_walk M (o.part.start + 36) o.count t.rows tree MQGACF_TRACE_ROUTE 0 first);
+            behind = omega (arith, nth_behind M (o.part.start + 36) o.count t.rows tree MQGACF_TRACE_ROUTE 0 first);
           })
 
-      pub headed : Headed buf part count s.routes
+      pub headed : Headed buf o s.routes
       headed = record {
         there = lies.there;
         least = lies.room;
         sound = start.sound;
-        read = sym start.counts ∙ num_part buf part.end (part.start + 32) (omega (arith, lies.room));
+        read = sym start.counts ∙ num_part buf o.part.end (o.part.start + 32) (omega (arith, lies.room));
         within = route_within;
       }
 

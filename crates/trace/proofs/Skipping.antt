@@ -2,7 +2,7 @@
 use mathlib.Core.Path.{◌≡◌, refl, sym, ap, ◌∙◌}
 use mathlib.Core.Bool.{true}
 use mathlib.Core.List.{List, ◌∷◌, ◌++◌}
-use Prim.Native.Nat.{ℕ, zero, suc, ◌+◌, ◌≤◌}
+use Prim.Native.Nat.{ℕ, zero, suc, ◌+◌, ◌-◌, ◌≤◌, ◌<◌}
 use native.Mathlib.Omega.{arith}
 use lib.ListN.{length}
 use Rattle.meaning.specs.Bytes.{Part, whole, number}
@@ -14,7 +14,7 @@ use Rattle.meaning.proofs.Tests.{clash, then_accepted}
 use Rattle.meaning.proofs.Structures.{row_at_lem}
 use Rattle.meaning.proofs.Members.{group_members, group_shallow, members_group}
 use Rattle.trace.specs.Passing.{Crossed, crossed, behind_of, is_sound}
-use Rattle.trace.proofs.Turns.{Over, over, walk_halt, walk_over, pass_over, pass_plain}
+use Rattle.trace.proofs.Turns.{one_left, Over, over, walk_halt, walk_over, pass_over, pass_plain}
 
 -- A STRUCTURE that is sound was passed over
 accepted_of : {A : Type 0} (x : Result A) → is_sound x ≡ true → (a : A) × (x ≡ accepted a)
@@ -54,6 +54,10 @@ module _ (m : Part) (p d n n' : ℕ) (due : n ≡ n' + 1) (sound : is_sound (wal
 
     pub sound_next : is_sound (walk m q d n') ≡ true
     sound_next = rest (walk m q d n') (ap (is_sound {A = Walked}) (sym (walk_over m p d n n' due r q o)) ∙ sound)
+
+-- the first of those that are left in a loop
+pub left_first : (m : Part) (p d n i : ℕ) → i < n → is_sound (walk m p d (n - i)) ≡ true → is_sound (crossed m p d) ≡ true
+left_first m p d n i h w = sound_first m p d (n - i) (n - (i + 1)) (one_left n i h) w
 
 -- what is no group has no members
 row_plain : (m : Part) (p d : ℕ) (r : Row) → structure_at m p d ≡ accepted r → (r.kind ≡ MQCFT_GROUP → ⊥) → r.members ≡ 0

@@ -23,9 +23,9 @@ use Rattle.meaning.proofs.Tops.{until_walk, tops_next}
 use Rattle.trace.specs.declared.groups.Group.{Group}
 use Rattle.trace.specs.declared.groups.Counted.{Counted}
 use Rattle.trace.specs.declared.groups.Tops.{Tops}
-use Rattle.trace.specs.Groups.{no_group_yet, none_yet, whole_group, counted, count_row, surveyed}
+use Rattle.trace.specs.Groups.{no_group_yet, none_yet, whole_group, counted, count_row, CountableGroup, surveyed}
 use Rattle.trace.specs.Passing.{crossed}
-use Rattle.trace.proofs.Turns.{Over, walk_halt, walk_over}
+use Rattle.trace.proofs.Turns.{Over, over, over_le, walk_halt, walk_over}
 
 -- one more group
 abbrev on_to : ℕ → Counted → Top → Counted
@@ -115,6 +115,14 @@ count_le id n c r q = go (eqb r.kind MQCFT_GROUP && eqb r.parameter id)
     go : (x : Bool) → (when x (record { count = c.count + 1; group = when (eqb c.count n) (record { place = r.place; inside = r.place + r.size; length = q - r.place; members = r.members }) c.group }) c).count ≤ c.count + 1
     go true = omega arith
     go false = omega arith
+
+-- a group that was passed over can be counted, with no more counted than structures were gone over
+pub countable : (m : Part) (p n i : ℕ) (c : Counted) (r : Row) (q : ℕ) → accepted (record { row = r; next = q }) ≡ crossed m p 1 → r.kind ≡ MQCFT_GROUP
+    → c.count ≤ i → i < n → n < 4294967296 → CountableGroup c r q
+countable m p n i c r q e k a b h =
+    let o = over m p 1 r q (sym e) in
+    let g = row_at_lem m p 1 r o.there in
+    record { a_group = k; few = omega arith; ends = omega (arith, g.at_place, over_le m p 1 r q o) }
 
 -- a structure that is no group counts for nothing
 count_other : (id n : ℕ) (c : Counted) (r : Row) (q : ℕ) → ¬ (r.kind ≡ MQCFT_GROUP) → count_row id n c r q ≡ c

@@ -1,7 +1,7 @@
 -- A walk, one structure after the other: each with all that is inside it.
 use mathlib.Core.Path.{◌≡◌, refl, sym, ap, ◌∙◌}
 use mathlib.Core.List.{List, [], ◌∷◌, ◌++◌}
-use Prim.Native.Nat.{ℕ, ◌+◌, ◌≤◌}
+use Prim.Native.Nat.{ℕ, ◌+◌, ◌-◌, ◌≤◌, ◌<◌}
 use native.Mathlib.Omega.{arith}
 use Rattle.meaning.specs.Bytes.{Part}
 use Rattle.meaning.specs.Answer.{Result, accepted, refused, and_then}
@@ -10,8 +10,22 @@ use Rattle.meaning.specs.Walk.{Walked, walked, ahead, enter, walk}
 use Rattle.meaning.proofs.Tests.{clash, then_accepted}
 use Rattle.meaning.proofs.Walks.{walks, walks_le}
 use Rattle.meaning.proofs.Fuel.{walk_zero}
+use Rattle.meaning.specs.Names.{most_depth}
+use Rattle.structure.specs.Rows.{reach_of}
+use Rattle.structure.proofs.Extents.{reaches, reach_fits, reach_least, reach_shallow}
 use Rattle.walk.proofs.Turns.{unfolded, walk_on}
 use Rattle.trace.specs.Passing.{Crossed, crossed}
+
+-- A STRUCTURE that was found, by its extent: it lies in the bytes, with 16 or more, and what has members is no deeper than 8
+module _ (m : Part) (p d n k : ℕ) (e : accepted (record { size = n; members = k }) ≡ reach_of (structure_at m p d)) where
+  pub extent_fits : p + n ≤ m.end
+  extent_fits = reach_fits (reaches e)
+
+  pub extent_least : 16 ≤ n
+  extent_least = reach_least (reaches e)
+
+  pub extent_shallow : (k ≡ 0 → ⊥) → d ≤ most_depth
+  extent_shallow = reach_shallow (reaches e)
 
 -- WHAT IS PASSED, by what the structure and the walk inside it come to
 module _ (m : Part) (p d : ℕ) where
@@ -54,6 +68,10 @@ over m p d r q e =
     }
 
 -- ONE TURN of a walk
+-- in a loop over all structures, that one more is left
+pub one_left : (n i : ℕ) → i < n → n - i ≡ n - (i + 1) + 1
+one_left n i h = omega arith
+
 -- the structure and the place behind it, from the walk inside it
 abbrev step_to : Row → Walked → Result Crossed
 step_to r w = accepted (record { row = r; next = w.next })

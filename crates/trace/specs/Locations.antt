@@ -10,6 +10,7 @@ use Rattle.meaning.specs.Message.{header_ok}
 use Rattle.meaning.specs.Trace.{trace_header, direct_in, each_once, places_of, values_at, in_range, Terms, Trace, read_trace}
 use Rattle.layout.specs.Layouts.{part_at}
 use Rattle.layout.specs.declared.part.Part.{Part as PartIn}
+use Rattle.pcf.specs.declared.message.Opening.{Opening}
 use Rattle.trace.specs.Passing.{is_sound}
 use Rattle.trace.specs.Groups.{counted}
 use Rattle.trace.specs.declared.groups.Group.{Group}
@@ -50,9 +51,9 @@ pub record Within (s : List ℕ) (inside members : ℕ) : Type 0 where
   pub behind : 2 ≤ inside
 
 -- the header is sound, its count is known, and the members of a group that was counted are sound behind it
-pub record Headed (msg : List ℕ) (part : PartIn) (count : ℕ) (routes : Counted) : Type 0 where
-  pub there : part.end ≤ length msg
-  pub least : part.start + 36 ≤ part.end
-  pub sound : header_ok (part_at msg part) ≡ true
-  pub read : count ≡ number msg (part.start + 32)
-  pub within : routes.count ≡ 1 → Within (take part.end msg) routes.group.inside routes.group.members
+pub record Headed (msg : List ℕ) (o : Opening) (routes : Counted) : Type 0 where
+  pub there : o.part.end ≤ length msg
+  pub least : o.part.start + 36 ≤ o.part.end
+  pub sound : header_ok (part_at msg o.part) ≡ true
+  pub read : o.count ≡ number msg (o.part.start + 32)
+  pub within : routes.count ≡ 1 → Within (take o.part.end msg) routes.group.inside routes.group.members

@@ -48,6 +48,7 @@ const NONE_YET: Counted = Counted {
 };
 
 // One more group, which ends before `behind`: it counts if it has the identifier, and is kept if it is the n-th of those.
+#[tactic(auto, unfolding(crate::specs::Groups::count_row))]
 fn count_row(c: Counted, id: u32, n: usize, row: Row, behind: usize) -> Counted
     requires { CountableGroup c (row_of row) behind }
     ensures { result ≡ count_row id n c (row_of row) behind }
@@ -71,6 +72,7 @@ fn count_row(c: Counted, id: u32, n: usize, row: Row, behind: usize) -> Counted
 }
 
 // Goes over the top-level structures, `count` of them from `first` on, and over all that is inside them.
+#[tactic(auto, using(crate::proofs::Surveys::survey_start))]
 pub fn survey(s: &[u8], first: usize, count: u32, n: usize) -> Result<Tops, Refusal>
     ensures { answer result ≡ surveyed n (walk (whole s.now) first 1 count) }
 {

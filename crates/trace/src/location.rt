@@ -52,11 +52,12 @@ fn attributes(
 }
 
 // 6, then 7, then 8: the header is a trace's, and there is exactly one TraceRoute group.
-fn judge(msg: &[u8], part: Part, sheet: [u32; 8], count: u32, tops: Tops) -> Result<Traced, Refusal>
-    requires { Headed msg.now part count tops.routes }
-    ensures { answer result ≡ judged_in sheet (part_at msg.now part) tops.routes tops.activities.group }
+fn judge(msg: &[u8], opening: Opening, sheet: [u32; 8], tops: Tops) -> Result<Traced, Refusal>
+    requires { Headed msg.now opening tops.routes }
+    ensures { answer result ≡ judged_in sheet (part_at msg.now opening.part) tops.routes tops.activities.group }
 {
-    if count < 1 || !has_header(msg, part.start, Kind::Trace) {
+    let part = opening.part;
+    if opening.count < 1 || !has_header(msg, part.start, Kind::Trace) {
         return Err(Refusal::NoTraceHeader);
     }
     if tops.routes.count != 1 {
@@ -79,10 +80,11 @@ pub fn trace_of(msg: &[u8], len: usize, terms: Terms, n: usize) -> Result<Traced
     if !sheet_ok(terms.sheet) {
         return Err(Refusal::BadSheet);
     }
-    let Opening { part, count } = opened(msg, len, terms.layout)?;
-    let tops = survey(&msg[..part.end], part.start + HEADER, count, n)?;
+    let opening = opened(msg, len, terms.layout)?;
+    let part = opening.part;
+    let tops = survey(&msg[..part.end], part.start + HEADER, opening.count, n)?;
     if tops.behind != part.end {
         return Err(Refusal::LeftOver(tops.behind));
     }
-    judge(msg, part, terms.sheet, count, tops)
+    judge(msg, opening, terms.sheet, tops)
 }

@@ -17,6 +17,7 @@ const ABSENT: usize = 0;
 const FAULT: usize = 1;
 
 // The mark of the attribute with the identifier, after one more direct member of the group.
+#[tactic(auto, unfolding(crate::specs::Marks::noted))]
 fn note(id: u32, mark: usize, kind: u32, parameter: u32, place: usize) -> usize
     ensures { result ≡ noted id mark kind parameter place }
 {
@@ -51,6 +52,7 @@ fn note_all(
 
 // The marks of the eight attributes after all of a group's direct members, `count` of them, the first at `place`. What is
 // nested deeper is passed over. The members were surveyed, so none is checked again.
+#[tactic(auto, using(crate::proofs::Skipping::left_first, crate::proofs::Skipping::known_room, meaning::proofs::Lists::zeros_at))]
 pub fn marks_of(s: &[u8], place: usize, count: u32, sheet: [u32; 8]) -> [usize; 8]
     requires { is_sound (walk (whole s.now) place 2 count) ≡ true }
     ensures { Marked sheet (walk (whole s.now) place 2 count) result }
@@ -58,6 +60,7 @@ pub fn marks_of(s: &[u8], place: usize, count: u32, sheet: [u32; 8]) -> [usize; 
     let mut at = place;
     let mut marks = [ABSENT; 8];
     for _ in 0..count {
+        // by way of a variable: the borrow checker covers no call whose result goes straight into an array
         let after = note_all(sheet, marks, number_at(s, at), number_at(s, at + 8), at);
         marks = after;
         at = behind(s, at, 2);

@@ -18,6 +18,7 @@ pub struct Crossing {
 }
 
 // Passes over the structure at `place`, of this depth, and all that is inside it; or gives the first fault there.
+#[tactic(auto, using(crate::proofs::Turns::extent_fits, crate::proofs::Turns::extent_least, crate::proofs::Turns::extent_shallow))]
 pub fn pass(s: &[u8], place: usize, depth: u32) -> Result<Crossing, Refusal>
     ensures { answered crossing_of result ≡ crossed (whole s.now) place depth }
 {
@@ -48,6 +49,7 @@ pub fn pass(s: &[u8], place: usize, depth: u32) -> Result<Crossing, Refusal>
 
 // The place behind a structure that is known to be sound, and behind all that is inside it. Its fields are read and not checked
 // again: whoever goes over the members of a group that was surveyed asks this of each.
+#[tactic(auto, using(crate::proofs::Skipping::known_room, crate::proofs::Skipping::known_fits))]
 pub fn behind(s: &[u8], place: usize, depth: u32) -> usize
     requires { is_sound (crossed (whole s.now) place depth) ≡ true }
     ensures { behind_of (crossed (whole s.now) place depth) ≡ accepted result }

@@ -1,20 +1,8 @@
 -- The structure is sound, so that its fields are its row's, and its members are sound too.
 use Rattle.std.proofs.Common.{arith}
 use Rattle.walk.proofs.Numbering.{past, past_fault}
-use Rattle.trace.proofs.Skipping.{known_room, known_fits, behind_plain, behind_shallow, behind_never, behind_group}
+use Rattle.trace.proofs.Skipping.{behind_plain, behind_shallow, behind_never, behind_group}
 use Rattle.trace.proofs.passing.behind.Goals as goal
-
-pub overflow_add-place : goal.overflow_add-place
-overflow_add-place c = omega (arith, known_room _ _ _ c.requires)
-
-pub number_at-requires : goal.number_at-requires
-number_at-requires c = omega (arith, known_room _ _ _ c.requires)
-
-pub overflow_add-next : goal.overflow_add-next
-overflow_add-next c = omega (arith, known_fits c.args.s.now c.args.place c.args.depth _ c.requires c.number_at.ensures)
-
-pub number_at-requires-2 : goal.number_at-requires-2
-number_at-requires-2 c = omega (arith, known_room _ _ _ c.requires)
 
 pub returns-then-number_at-ne-MQCFT_GROUP : goal.returns-then-number_at-ne-MQCFT_GROUP
 returns-then-number_at-ne-MQCFT_GROUP c =
@@ -23,12 +11,6 @@ returns-then-number_at-ne-MQCFT_GROUP c =
 pub overflow_add-depth : goal.overflow_add-depth
 overflow_add-depth c =
     omega (arith, behind_shallow (record { sound = c.requires; is_size = c.number_at.ensures; is_kind = c.number_at-2.ensures }) c.if-number_at-ne-MQCFT_GROUP.false)
-
-pub overflow_add-place-2 : goal.overflow_add-place-2
-overflow_add-place-2 c = omega (arith, known_room _ _ _ c.requires)
-
-pub number_at-requires-3 : goal.number_at-requires-3
-number_at-requires-3 c = omega (arith, known_room _ _ _ c.requires)
 
 pub unreachable-requires : goal.unreachable-requires
 unreachable-requires c =
