@@ -1,4 +1,4 @@
--- One turn of the walk: a structure, what is inside it, then the rest. Both walks of the code go by these laws.
+-- One turn of the walk: a structure, what is inside it, then the rest. Every walk of the code goes by these laws.
 use mathlib.Core.Path.{◌≡◌, refl, ◌∙◌}
 use mathlib.Core.List.{List, ◌∷◌, ◌++◌}
 use Prim.Native.Nat.{ℕ, ◌+◌, ◌-◌, ◌≤◌, ◌<◌}

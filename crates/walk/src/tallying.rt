@@ -1,14 +1,12 @@
-// The walk over structures and all that is inside them, which counts them by their types. Only the tally needs the counts:
-// all others pass over structures without them.
+// The walk that counts structures by their types. Only the tally needs the counts: all others pass over structures without them.
 ghost use Rattle.std.specs.Prelude.{◌≡◌};
 ghost use Rattle.meaning.specs.Bytes.{whole};
 ghost use Rattle.meaning.specs.Walk.{walk};
 ghost use Rattle.refusals.specs.Refusals.{answered};
 ghost use Rattle.walk.specs.Tallies.{tallied, walked_of, Walkable};
 
+use crate::walking::walk;
 use refusals::Refusal;
-use structure::{Extent, extent_at};
-use wire::number_at;
 
 // The place behind the last structure, and a count for each type, 0 to 26.
 #[derive(Clone, Copy, Debug, PartialEq, Eq)]
@@ -29,24 +27,10 @@ pub fn siblings(
     requires { Walkable s.now place tally }
     ensures { answered walked_of result ≡ tallied tally (walk (whole s.now) place depth count) }
 {
-    let mut behind = place;
-    let mut tally = tally;
-    for _ in 0..count {
-        // a match: with a `?` the walk over a flat message takes 1.4 times as long
-        match extent_at(s, behind, depth) {
-            Err(r) => return Err(r),
-            Ok(Extent { size, members }) => {
-                let kind = number_at(s, behind) as usize;
-                tally[kind] += 1;
-                behind += size as usize;
-                if members != 0 {
-                    // a group: its members come first
-                    let inner = siblings(s, behind, depth + 1, members, tally)?;
-                    behind = inner.behind;
-                    tally = inner.tally;
-                }
-            }
-        }
-    }
-    Ok(Walked { behind, tally })
+    let reached = walk(s, place, depth, count, tally)?;
+    let tally = reached.seen;
+    Ok(Walked {
+        behind: reached.behind,
+        tally,
+    })
 }
