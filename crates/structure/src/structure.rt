@@ -108,13 +108,15 @@ pub fn structure_at(s: &[u8], place: usize, depth: u32) -> Result<Row, Refusal>
 fn group_kept(size: u32, first: u32) -> bool
     ensures { result ≡ (eqb size 16 && ltb first two_to31) }
 {
+    // no branch between the two: nearly every group passes both
     (size == FIXED) & (first < TWO_TO_31)
 }
 
 // The same without the row, for those who only pass over it. It is a function of its own, and not what `structure_at` gives
-// with two fields left out, because it is the fast form: a walk asks this of each structure that it meets, so it is kept
-// small enough to be compiled into the walk. Integers and groups, which most structures are, are judged at once, and how far
-// they reach is not read but known, so that the walk does not wait for it; all else goes by the table.
+// with two fields left out, because it is the fast form: a walk asks this of each structure that it meets, so it is compiled
+// into the walk. Integers and groups, which most structures are, are judged at once, and how far they reach is not read but
+// known, so that the walk does not wait for it; all else goes by the table.
+#[inline(always)]
 #[tactic(auto, using(meaning::proofs::Structures::structure_short), unfolding(crate::specs::Rows::sound_in, meaning::specs::Structure::structure_at, meaning::specs::Structure::judge, meaning::specs::Structure::length_rule, meaning::specs::Bytes::word))]
 pub fn extent_at(s: &[u8], place: usize, depth: u32) -> Result<Extent, Refusal>
     ensures { answered extent_of result ≡ reach_of (structure_at (whole s.now) place depth) }

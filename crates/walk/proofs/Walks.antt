@@ -10,11 +10,11 @@ use Rattle.meaning.proofs.Fuel.{walk_zero}
 use Rattle.meaning.proofs.Tallies.{rows_room}
 use Rattle.meaning.proofs.Lines.{walks_end}
 use Rattle.structure.proofs.Extents.{Reaches, reach_fits, reach_least}
-use Rattle.walk.specs.Counters.{CounterLaws, Reach, counting}
+use Rattle.walk.specs.Counters.{CounterLaws, Counted, counting}
 use Rattle.walk.proofs.Turns.{behind, walk_refused, walk_halt, walk_on}
 
 -- a walk that came to the place q with the counter at u
-abbrev pub came : {A : Type 0} → ℕ → A → Result (Reach A)
+abbrev pub came : {A : Type 0} → ℕ → A → Result (Counted A)
 came q u = accepted (record { behind = q; seen = u })
 
 module _ {A : Type 0} {counted : A → List Row → A} {Room : A → ℕ → Type 0} (laws : CounterLaws counted Room) where
@@ -33,11 +33,11 @@ module _ {A : Type 0} {counted : A → List Row → A} {Room : A → ℕ → Typ
   told : (x : A) (w : Result Walked) (q : ℕ) (u : A) → came q u ≡ counting counted x w → Came x w q u
   told x w q u e =
       let f = then_accepted w (λ y. came y.next (counted x y.rows)) (record { behind = q; seen = u }) (sym e) in
-      let g : ◌≡◌ {A = Reach A} (record { behind = f.0.next; seen = counted x f.0.rows }) (record { behind = q; seen = u }) = cc f.2 in
+      let g : ◌≡◌ {A = Counted A} (record { behind = f.0.next; seen = counted x f.0.rows }) (record { behind = q; seen = u }) = cc f.2 in
       record {
         rows = f.0.rows;
-        over = f.1 ∙ ap (λ (i : ℕ). accepted (record { rows = f.0.rows; next = i })) (ap (λ (y : Reach A). y.behind) g);
-        seen = sym (ap (λ (y : Reach A). y.seen) g);
+        over = f.1 ∙ ap (λ (i : ℕ). accepted (record { rows = f.0.rows; next = i })) (ap (λ (y : Counted A). y.behind) g);
+        seen = sym (ap (λ (y : Counted A). y.seen) g);
       }
 
   halted : (x : A) (w : Result Walked) (k q : ℕ) → refused k q ≡ counting counted x w → w ≡ refused k q

@@ -19,15 +19,15 @@ pub record CounterLaws {A : Type 0} (counted : A → List Row → A) (Room : A �
   pub room : (x : A) (n : ℕ) (xs : List Row) (m : ℕ) → Room x n → m + length xs ≤ n → Room (counted x xs) m
 
 -- the place behind the last structure, and what was counted up to there
-pub record Reach (A : Type 0) : Type 0 where
+pub record Counted (A : Type 0) : Type 0 where
   pub behind : ℕ
   pub seen : A
 
 -- what a walk that starts with the counter at x comes to, or its refusal
-abbrev pub counting : {A : Type 0} → (A → List Row → A) → A → Result Rows → Result (Reach A)
+abbrev pub counting : {A : Type 0} → (A → List Row → A) → A → Result Rows → Result (Counted A)
 counting counted x w = and_then w (λ y. accepted (record { behind = y.next; seen = counted x y.rows }))
 
-abbrev pub reached_of : {A : Type 0} → Reached A → Reach A
+abbrev pub reached_of : {A : Type 0} → Reached A → Counted A
 reached_of r = record { behind = r.behind; seen = r.seen }
 
 -- as many more as there are rows
