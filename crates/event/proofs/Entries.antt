@@ -178,20 +178,25 @@ module _ (buf : List ℕ) (len : ℕ) (s : Settings) (t : Traced) (c : Countable
   pub count_place_holds : value t.places 3 + 16 ≤ 65536
   count_place_holds = place_most buf len s.layout t counting [] [] (as_ready []) 3 (omega arith)
 
-  pub count_denied : (n p : ℕ) (o : Bool) → decide t.values counting 0 len (length buf) 0 ≡ denied n p o → (report : List ℕ)
-      → record { answer = denied n p o; next = record { buf = buf; len = len; report = report } }
-      ≡ leaving (record { buf = buf; len = len; report = report }) (applied (layout_of s.layout) (record { buf = buf; len = len; report = report }) [] t.places counting)
-      (decide t.values counting 0 len (length buf) (length report))
-  count_denied n p o d report = left_denied _ _ _ n p o (any_report (length report) 0 ∙ d)
+  -- the plan p is that of a discontinuity, and what was decided by it is a
+  module _ (p : Plan) (same : p ≡ counting) where
+    as_planned : (a : Answer) → a ≡ decide t.values p 0 len (length buf) 0 → (report : List ℕ) → decide t.values counting 0 len (length buf) (length report) ≡ a
+    as_planned a d report = any_report (length report) 0 ∙ ap (λ (q : Plan). decide t.values q 0 len (length buf) 0) (sym same) ∙ sym d
 
-  module _ (x : Done) (d : decide t.values counting 0 len (length buf) 0 ≡ done x) where
-    pub count_writable : Writable buf len s.layout t.part (value_place (value t.places 3)) (value t.values 3) false []
-    unfolding plan_of
-    count_writable = ready_writable buf len s.layout t counting [] [] (as_ready []) x (any_report 0 0 ∙ d)
-
-    pub count_written : (buf' : List ℕ) → buf' ≡ splice buf (value_place (value t.places 3)) (bytes4 (value t.values 3 + 1)) → (report : List ℕ)
-        → record { answer = done x; next = record { buf = buf'; len = x.message_length; report = report } }
+    pub count_denied : (n q : ℕ) (o : Bool) → denied n q o ≡ decide t.values p 0 len (length buf) 0 → (report : List ℕ)
+        → record { answer = denied n q o; next = record { buf = buf; len = len; report = report } }
         ≡ leaving (record { buf = buf; len = len; report = report }) (applied (layout_of s.layout) (record { buf = buf; len = len; report = report }) [] t.places counting)
         (decide t.values counting 0 len (length buf) (length report))
-    unfolding plan_of store
-    count_written buf' b report = ready_written buf len s.layout t counting [] report (as_ready report) x (any_report (length report) 0 ∙ d) buf' report b refl
+    count_denied n q o d report = left_denied _ _ _ n q o (as_planned (denied n q o) d report)
+
+    module _ (x : Done) (d : done x ≡ decide t.values p 0 len (length buf) 0) where
+      pub count_writable : Writable buf len s.layout t.part (value_place (value t.places 3)) (value t.values 3) false []
+      unfolding plan_of
+      count_writable = ready_writable buf len s.layout t counting [] [] (as_ready []) x (as_planned (done x) d [])
+
+      pub count_written : (buf' : List ℕ) → buf' ≡ splice buf (value_place (value t.places 3)) (bytes4 (value t.values 3 + 1)) → (report : List ℕ)
+          → record { answer = done x; next = record { buf = buf'; len = x.message_length; report = report } }
+          ≡ leaving (record { buf = buf; len = len; report = report }) (applied (layout_of s.layout) (record { buf = buf; len = len; report = report }) [] t.places counting)
+          (decide t.values counting 0 len (length buf) (length report))
+      unfolding plan_of store
+      count_written buf' b report = ready_written buf len s.layout t counting [] report (as_ready report) x (as_planned (done x) d report) buf' report b refl

@@ -18,7 +18,7 @@ pub fn group_ok(group: &[u8]) -> bool
     ensures { result ≡ group_ok group.now }
 {
     let len = group.len();
-    if len < LEAST || MOST < len {
+    if !(LEAST..=MOST).contains(&len) {
         return false;
     }
     if number_at(group, 0) != MQCFT_GROUP || number_at(group, 8) != MQGACF_ACTIVITY {

@@ -39,6 +39,7 @@ pub fn write_message(
 }
 
 // Writes a report to the start of its buffer: its header, then the group.
+#[tactic(auto, using(crate::proofs::Writes::header_and_group))]
 pub fn write_report(report: &mut [u8], group: &[u8])
     requires { 36 + length group.now ≤ length report.old }
     ensures { report.new ≡ splice report.old 0 (report_of group.now) }
