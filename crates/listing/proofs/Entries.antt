@@ -50,8 +50,11 @@ module _ (l : Layout) (buf : List ℕ) (len : ℕ) (p : PartIn) (k : ℕ) (opens
   pub around : Inside (part_at buf p) buf len
   around = inside l buf len (part_at buf p) lies
 
-  pub end_there : p.end ≤ length buf
+  end_there : p.end ≤ length buf
   end_there = omega (arith, around.within, around.there)
+
+  pub bytes_there : p.end ≡ length (take p.end buf)
+  bytes_there = sym (length-take-le p.end buf end_there)
 
   its_scan : scan l buf len ≡ rows_of (part_from (take p.end buf) p.start)
   unfolding scan

@@ -21,6 +21,7 @@ use whole::put_listing;
 // LIST: the listing of the message in the first `len` bytes, written from the buffer's first byte on: the structures of its
 // part, and in the header line the whole message's length. The answer is the text's length, or 1, 18, or 2 to 5. A message that
 // is refused leaves the buffer as it was, so the check comes first.
+#[tactic(auto, using(crate::proofs::Entries::around, crate::proofs::Entries::bytes_there, crate::proofs::Entries::list_checked, pcf::proofs::Openings::opened_reaches))]
 pub fn list(
     msg: &[u8],
     len: usize,
