@@ -37,6 +37,7 @@ pub fn list(
 }
 
 // The line of a refusal, from the buffer's first byte on.
+#[tactic(auto, using(meaning::proofs::Lines::refusal_line_most))]
 pub fn refused_line(r: Refusal, out: &mut [u8; 131072]) -> usize
     requires { place_of r < 4294967296 }
     ensures { Wrote out.old 0 (refusal_line (number_of r) (place_of r)) out.new result }
