@@ -36,6 +36,7 @@ pub extern "C" fn gw_discontinuity(
 }
 
 // AN ACTIVITY: the message's length now, or Read's refusals, then 9 to 13. A refusal leaves all three buffers as they were.
+#[tactic(auto, using(crate::proofs::Applied::event_brief))]
 #[unsafe(no_mangle)]
 pub extern "C" fn gw_activity(
     buffer: &mut [u8],

@@ -9,6 +9,7 @@ use codes::{coded, given, layout_of, refused};
 use pcf::{Cursor, Stepped};
 
 // CHECK: the number of structures, or 1, 18, or 2 to 5.
+#[tactic(auto, using(crate::proofs::Reach::check_fits))]
 #[unsafe(no_mangle)]
 pub extern "C" fn gw_check(buffer: &[u8], length: usize, options: u32) -> u64
     ensures { result ≡ code (check (layout_in options) buffer.now length) }
@@ -17,6 +18,7 @@ pub extern "C" fn gw_check(buffer: &[u8], length: usize, options: u32) -> u64
 }
 
 // TALLY: answers as the check does; one count for each type, all 0 if the message is refused.
+#[tactic(auto, using(crate::proofs::Reach::check_fits))]
 #[unsafe(no_mangle)]
 pub extern "C" fn gw_tally(
     buffer: &[u8],
@@ -41,6 +43,7 @@ pub extern "C" fn gw_tally(
 }
 
 // LIST: the text's length, or 1, 18, or 2 to 5. A refusal leaves the text as it was.
+#[tactic(auto, using(crate::proofs::Reach::list_fits))]
 #[unsafe(no_mangle)]
 pub extern "C" fn gw_list(
     buffer: &[u8],

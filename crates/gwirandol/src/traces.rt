@@ -35,6 +35,7 @@ fn embedding_with(fields: &[u32; 3], format: &[u8; 8]) -> Embedding
 }
 
 // COMPOSE: the length written, or 17, 8 or 12 and the buffer stays. Fields, format and user data are an embedded message's.
+#[tactic(auto, using(crate::proofs::Reach::compose_fits))]
 #[unsafe(no_mangle)]
 pub extern "C" fn gw_compose(
     sheet: &[u32; 8],
@@ -52,6 +53,7 @@ pub extern "C" fn gw_compose(
 }
 
 // COMPOSE A PLAIN MESSAGE: as gw_compose does without options, and with nothing to hand over for an embedded one.
+#[tactic(auto, using(crate::proofs::Reach::compose_fits))]
 #[unsafe(no_mangle)]
 pub extern "C" fn gw_compose_plain(sheet: &[u32; 8], values: &[u32; 8], buffer: &mut [u8]) -> u64
     ensures { ComposesPlain sheet.now values.now buffer.old result buffer.new }
@@ -60,6 +62,7 @@ pub extern "C" fn gw_compose_plain(sheet: &[u32; 8], values: &[u32; 8], buffer: 
 }
 
 // READ: the user data's place, the eight values, and the embedding; or 17, then 1, 18 and 2 to 8, and all of them stay.
+#[tactic(auto, using(crate::proofs::Reach::read_small, crate::proofs::Reach::read_user))]
 #[unsafe(no_mangle)]
 pub extern "C" fn gw_read(
     buffer: &[u8],
@@ -89,6 +92,7 @@ pub extern "C" fn gw_read(
 
 // FORWARDING, to a manager that the options say to support trace-route messaging or not: 1, or Read's refusals, then 14, 15
 // and 16.
+#[tactic(auto, using(crate::proofs::Reach::decided_fits, crate::proofs::Reach::forward_fits))]
 #[unsafe(no_mangle)]
 pub extern "C" fn gw_forward(buffer: &[u8], length: usize, sheet: &[u32; 8], options: u32) -> u64
     ensures { result ≡ code (decided_number (forwarding (terms_in options sheet.now) buffer.now length (options_in options).supporting)) }
@@ -98,6 +102,7 @@ pub extern "C" fn gw_forward(buffer: &[u8], length: usize, sheet: &[u32; 8], opt
 }
 
 // ARRIVAL: 2 to put, 3 to withhold, or Read's refusals, then 14.
+#[tactic(auto, using(crate::proofs::Reach::decided_fits, crate::proofs::Reach::arrive_fits))]
 #[unsafe(no_mangle)]
 pub extern "C" fn gw_arrive(buffer: &[u8], length: usize, sheet: &[u32; 8], options: u32) -> u64
     ensures { result ≡ code (decided_number (arrival (terms_in options sheet.now) buffer.now length)) }

@@ -1,4 +1,4 @@
--- `events::gw_discontinuity` meets its contract: what the event answers is brief.
+-- What the event answers is brief, whatever the report buffer.
 use Rattle.std.proofs.Common.{[], sym, ap, subst}
 use Rattle.meaning.specs.Event.{Outcome}
 use Rattle.codes.specs.Events.{Brief}
