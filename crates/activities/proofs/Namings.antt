@@ -217,9 +217,9 @@ module _ (tm : Terms) (buf : List ℕ) (len n id : ℕ) where
     unfolding name_of
     is_name = ap (λ (r : Result Trace). first_name m buf (named id (strings (direct_in (nth_activity r n).inside)))) trace.read
 
-    found_data : (x : Name) → string_in bytes id gone ≡ x → first_data m strings_in ≡ x
+    found_data : (x : Name) → x ≡ string_in bytes id gone → first_data m strings_in ≡ x
     found_data x e =
-        sym (ap (λ (end : ℕ). string_in (whole (take end buf)) id gone) ends ∙ string_from buf m.end m.start id gone ∙ ap (string_in m id) (same_walk ∙ inside.1)) ∙ e
+        sym (e ∙ ap (λ (end : ℕ). string_in (whole (take end buf)) id gone) ends ∙ string_from buf m.end m.start id gone ∙ ap (string_in m id) (same_walk ∙ inside.1))
 
     data_end : (s : Span) → first_data m strings_in ≡ in_message s → s.place + s.length ≤ length buf
     data_end s e =
@@ -229,10 +229,10 @@ module _ (tm : Terms) (buf : List ℕ) (len n id : ℕ) where
         let g = first_of (λ r. P r × (r.kind ≡ MQCFT_STRING)) m strings_in s all e in
         omega (arith, g.1.0 g.1.1, ap (λ (x : Span). x.place) g.2, ap (λ (x : Span). x.length) g.2, facts.lies.within, facts.lies.there)
 
-    pub name_missing : string_in bytes id gone ≡ substitute → substitute ≡ name_of tm buf len n id
+    pub name_missing : substitute ≡ string_in bytes id gone → substitute ≡ name_of tm buf len n id
     name_missing e = sym (is_name ∙ name_none m buf strings_in (found_data substitute e))
 
-    module _ (s : Span) (e : string_in bytes id gone ≡ in_message s) where
+    module _ (s : Span) (e : in_message s ≡ string_in bytes id gone) where
       pub string_fits : s.place + s.length ≤ length buf
       string_fits = data_end s (found_data (in_message s) e)
 
@@ -240,15 +240,15 @@ module _ (tm : Terms) (buf : List ℕ) (len n id : ℕ) where
       name_found = sym (is_name ∙ name_some m buf strings_in s (found_data (in_message s) e))
 
     -- a name lies in the message
-    name_ends : (s : Span) → name_of tm buf len n id ≡ in_message s → s.place + s.length ≤ length buf
+    name_ends : (s : Span) → in_message s ≡ name_of tm buf len n id → s.place + s.length ≤ length buf
     name_ends s e =
-        let g = name_data m buf strings_in s (sym is_name ∙ e) in
+        let g = name_data m buf strings_in s (sym (e ∙ is_name)) in
         omega (arith, data_end g.0 g.1, ap (λ (x : Span). x.place) g.2, ap (λ (x : Span). x.length) g.2, trim_le (bytes_in buf g.0), bytes_le g.0)
       where
         bytes_le : (d : Span) → length (bytes_in buf d) ≤ d.length
         bytes_le d = length-take_most d.length (drop d.place buf)
 
-pub name_in : (tm : Terms) (buf : List ℕ) (len n id : ℕ) (s : Span) → name_of tm buf len n id ≡ in_message s → s.place + s.length ≤ length buf
+pub name_in : (tm : Terms) (buf : List ℕ) (len n id : ℕ) (s : Span) → in_message s ≡ name_of tm buf len n id → s.place + s.length ≤ length buf
 name_in tm buf len n id s e = go (read_trace tm buf len) refl
   where
     go : (x : Result Trace) → read_trace tm buf len ≡ x → s.place + s.length ≤ length buf
@@ -257,7 +257,7 @@ name_in tm buf len n id s e = go (read_trace tm buf len) refl
         name_ends tm buf len n id (traced n (part_in tm.layout buf len) t) h s e
     go (refused k p) f =
         let h = sym (ap (λ (y : Result Trace). and_then y (λ z. accepted (traced n (part_in tm.layout buf len) z))) f) in
-        let z : substitute ≡ in_message s = name_lost tm buf len n id k p h ∙ e in
+        let z : substitute ≡ in_message s = name_lost tm buf len n id k p h ∙ sym e in
         absurd (clash (cc))
 
 -- WHAT IS GIVEN has the bytes of the name

@@ -48,7 +48,7 @@ span_in_lem tm buf len t e n = go (ltb n (length (activities t.rows))) refl
         omega (arith, g.fills, g.ends, s.lies.within, s.lies.there)
     go false h = rw (get_or-eq_default (activities t.rows) no_group (ltb-false n (length (activities t.rows)) h)) (omega arith)
 
-pub activity_in_lem : (tm : Terms) (buf : List ℕ) (len n : ℕ) → (activity_group tm buf len n).place + (activity_group tm buf len n).length ≤ length buf
+activity_in_lem : (tm : Terms) (buf : List ℕ) (len n : ℕ) → (activity_group tm buf len n).place + (activity_group tm buf len n).length ≤ length buf
 unfolding activity_group size_of
 activity_in_lem tm buf len n = go (read_trace tm buf len) refl
   where
@@ -56,12 +56,11 @@ activity_in_lem tm buf len n = go (read_trace tm buf len) refl
     go (accepted t) e = span_in_lem tm buf len t e n
     go (refused k p) e = omega arith
 
--- the part of the message that a span is
-module _ (buf : List ℕ) (s : Handed) (x : Span) (e : span_in s ≡ x) where
-  pub span_end : x.place + x.length ≤ length buf → s.place + s.length ≤ length buf
-  span_end h = omega (arith, ap (λ (y : Span). y.place) e, ap (λ (y : Span). y.length) e)
+pub activity_end : (tm : Terms) (buf : List ℕ) (len n : ℕ) (p k : ℕ) → record { place = p; length = k } ≡ activity_group tm buf len n → p + k ≤ length buf
+activity_end tm buf len n p k e = omega (arith, activity_in_lem tm buf len n, ap (λ (y : Span). y.place) e, ap (λ (y : Span). y.length) e)
 
-  pub span_bytes : take (s.place + s.length - s.place) (drop s.place buf) ≡ bytes_in buf x
-  span_bytes =
-      let d : s.place + s.length - s.place ≡ s.length = omega arith in
-      rw d (ap (bytes_in buf) e)
+-- the part of the message that a span is
+pub span_bytes : (buf : List ℕ) (s : Handed) (x : Span) → span_in s ≡ x → take (s.place + s.length - s.place) (drop s.place buf) ≡ bytes_in buf x
+span_bytes buf s x e =
+    let d : s.place + s.length - s.place ≡ s.length = omega arith in
+    rw d (ap (bytes_in buf) e)

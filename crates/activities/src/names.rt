@@ -27,6 +27,7 @@ fn is_pad(byte: u8) -> bool
 }
 
 // How many of the bytes are left without the trailing blanks and zero bytes.
+#[tactic(auto, using(crate::proofs::Namings::kept_stop, crate::proofs::Namings::kept_next, crate::proofs::Namings::kept_none))]
 fn kept(s: &[u8]) -> usize
     ensures { result ≡ length (trimmed s.now) }
 {
@@ -42,6 +43,7 @@ fn kept(s: &[u8]) -> usize
 
 // The data of the first string with the identifier among a group's direct members, `count` of them, the first at `place`. The
 // members were surveyed, so none is checked again.
+#[tactic(auto, using(trace::proofs::Skipping::left_first, trace::proofs::Skipping::known_room))]
 fn first_string(s: &[u8], place: usize, count: u32, id: u32) -> Option<Span>
     requires { is_sound (walk (whole s.now) place 2 count) ≡ true }
     ensures { named_in result ≡ string_in (whole s.now) id (walk (whole s.now) place 2 count) }
@@ -80,6 +82,7 @@ pub fn name_span(msg: &[u8], len: usize, terms: Terms, n: usize, id: u32) -> Opt
 }
 
 // A NAMED STRING: a part of the message, or the lent substitute whole.
+#[tactic(auto, using(crate::proofs::Namings::name_in))]
 pub fn named_string<'a>(
     msg: &'a [u8],
     len: usize,

@@ -2,18 +2,14 @@
 use Rattle.std.proofs.Common.{◌+◌, refl, ap, arith}
 use Rattle.meaning.specs.Activity.{Span}
 use Rattle.attributes.specs.Terms.{terms_of}
-use Rattle.activities.proofs.Parts.{activity_in_lem, span_end, span_bytes}
+use Rattle.activities.proofs.Parts.{activity_end, span_bytes}
 use Rattle.activities.proofs.group.activity_group.Goals as goal
 
 pub overflow_add-result : goal.overflow_add-result
-overflow_add-result c =
-    let a = c.args in
-    omega (arith, span_end a.msg.now _ _ c.activity_span-place.ensures (activity_in_lem (terms_of a.terms) a.msg.now a.len a.n))
+overflow_add-result c = omega (arith, activity_end (terms_of c.args.terms) c.args.msg.now c.args.len c.args.n _ _ c.activity_span-place.ensures)
 
 pub slice_bounds-result-end : goal.slice_bounds-result-end
-slice_bounds-result-end c =
-    let a = c.args in
-    span_end a.msg.now _ _ c.activity_span-place.ensures (activity_in_lem (terms_of a.terms) a.msg.now a.len a.n)
+slice_bounds-result-end c = activity_end (terms_of c.args.terms) c.args.msg.now c.args.len c.args.n _ _ c.activity_span-place.ensures
 
 pub returns : goal.returns
 returns c =

@@ -1,35 +1,19 @@
 -- Each member that is looked at is sound, and has 16 bytes or more; a string's data lie in the bytes.
-use Rattle.std.proofs.Common.{◌≡◌, ◌+◌, ◌-◌, ◌≤◌, ◌<◌, ℕ, List, length, true, false, ◌∙◌, refl, sym, arith}
+use Rattle.std.proofs.Common.{◌≡◌, ◌+◌, ◌-◌, ◌≤◌, ℕ, List, length, true, false, ◌∙◌, refl, sym, arith}
 use borrow.Author.Tests.{eq-eqb, ne_eqb}
-use Rattle.meaning.specs.Bytes.{Part, whole, number}
+use Rattle.meaning.specs.Bytes.{whole, number}
 use Rattle.meaning.specs.Names.{MQCFT_STRING}
 use Rattle.meaning.specs.Answer.{accepted}
 use Rattle.meaning.specs.Structure.{Row}
 use Rattle.meaning.specs.Walk.{walk}
 use Rattle.meaning.specs.Activity.{in_message}
 use Rattle.trace.specs.Passing.{crossed, behind_of, is_sound}
-use Rattle.trace.proofs.Turns.{Over}
-use Rattle.trace.proofs.Skipping.{known_over, known_room, behind_over, sound_first, sound_next}
+use Rattle.trace.proofs.Turns.{one_left, Over}
+use Rattle.trace.proofs.Skipping.{known_over, behind_over, sound_first, sound_next}
 use Rattle.activities.specs.Naming.{string_in}
 use Rattle.activities.proofs.Namings.{string_end, Member, is_string, string_in_holds, string_hit, string_miss}
 use Rattle.activities.proofs.names.first_string.Goals as goal
 use Rattle.activities.proofs.names.first_string.Goals.{else-number_at-eq-MQCFT_STRING-via-then-number_at-eq-MQCFT_STRING+else-number_at-id, else-number_at-eq-MQCFT_STRING-via-else-number_at-eq-MQCFT_STRING}
-
--- one more is left
-due : (count i : ℕ) → i < count → count - i ≡ count - (i + 1) + 1
-due count i h = omega arith
-
-first : (m : Part) (at count i : ℕ) → i < count → is_sound (walk m at 2 (count - i)) ≡ true → is_sound (crossed m at 2) ≡ true
-first m at count i h w = sound_first m at 2 _ _ (due count i h) w
-
-pub number_at-requires : goal.number_at-requires
-number_at-requires c = omega (arith, known_room _ _ _ (first _ _ _ _ c.loop-test.true c.loop.invariant.1))
-
-pub overflow_add-at : goal.overflow_add-at
-overflow_add-at c = omega (arith, known_room _ _ _ (first _ _ _ _ c.loop-test.true c.loop.invariant.1))
-
-pub number_at-requires-then-number_at-eq-MQCFT_STRING : goal.number_at-requires-then-number_at-eq-MQCFT_STRING
-number_at-requires-then-number_at-eq-MQCFT_STRING c = omega (arith, known_room _ _ _ (first _ _ _ _ c.loop-test.true c.loop.invariant.1))
 
 -- a string that was found: its data lie in the bytes
 is_hit : (id kind parameter : ℕ) → kind ≡ MQCFT_STRING → parameter ≡ id → is_string id kind parameter ≡ true
@@ -51,7 +35,7 @@ pub overflow_add-result : goal.overflow_add-result
 overflow_add-result c =
     omega (
       arith,
-      data_in c.args.s.now c.loop.at _ _ c.args.id _ _ (due _ _ c.loop-test.true) c.loop.invariant.1 c.number_at.ensures c.number_at-then-number_at-eq-MQCFT_STRING.ensures
+      data_in c.args.s.now c.loop.at _ _ c.args.id _ _ (one_left _ _ c.loop-test.true) c.loop.invariant.1 c.number_at.ensures c.number_at-then-number_at-eq-MQCFT_STRING.ensures
           c.if-number_at-eq-MQCFT_STRING.true c.if-number_at-id.true,
     )
 
@@ -59,7 +43,7 @@ pub overflow_add-at-then-number_at-id : goal.overflow_add-at-then-number_at-id
 overflow_add-at-then-number_at-id c =
     omega (
       arith,
-      data_in c.args.s.now c.loop.at _ _ c.args.id _ _ (due _ _ c.loop-test.true) c.loop.invariant.1 c.number_at.ensures c.number_at-then-number_at-eq-MQCFT_STRING.ensures
+      data_in c.args.s.now c.loop.at _ _ c.args.id _ _ (one_left _ _ c.loop-test.true) c.loop.invariant.1 c.number_at.ensures c.number_at-then-number_at-eq-MQCFT_STRING.ensures
           c.if-number_at-eq-MQCFT_STRING.true c.if-number_at-id.true,
     )
 
@@ -67,18 +51,15 @@ pub number_at-requires-then-number_at-id : goal.number_at-requires-then-number_a
 number_at-requires-then-number_at-id c =
     omega (
       arith,
-      data_in c.args.s.now c.loop.at _ _ c.args.id _ _ (due _ _ c.loop-test.true) c.loop.invariant.1 c.number_at.ensures c.number_at-then-number_at-eq-MQCFT_STRING.ensures
+      data_in c.args.s.now c.loop.at _ _ c.args.id _ _ (one_left _ _ c.loop-test.true) c.loop.invariant.1 c.number_at.ensures c.number_at-then-number_at-eq-MQCFT_STRING.ensures
           c.if-number_at-eq-MQCFT_STRING.true c.if-number_at-id.true,
     )
 
 pub returns-then-number_at-id : goal.returns-then-number_at-id
 returns-then-number_at-id c =
     rw c.number_at-then-number_at-id.ensures
-    (sym (c.loop.invariant.0 ∙ hit c.args.s.now c.loop.at _ _ c.args.id _ _ (due _ _ c.loop-test.true) c.loop.invariant.1 c.number_at.ensures c.number_at-then-number_at-eq-MQCFT_STRING.ensures
+    (sym (c.loop.invariant.0 ∙ hit c.args.s.now c.loop.at _ _ c.args.id _ _ (one_left _ _ c.loop-test.true) c.loop.invariant.1 c.number_at.ensures c.number_at-then-number_at-eq-MQCFT_STRING.ensures
     c.if-number_at-eq-MQCFT_STRING.true c.if-number_at-id.true))
-
-pub behind-at-requires : goal.behind-at-requires
-behind-at-requires c = first _ _ _ _ c.loop-test.true c.loop.invariant.1
 
 -- a member of another type, or with another identifier
 miss : (s : List ℕ) (at n n' q id kind parameter : ℕ) → n ≡ n' + 1 → behind_of (crossed (whole s) at 2) ≡ accepted q → kind ≡ number s at → parameter ≡ number s (at + 8)
@@ -89,7 +70,7 @@ pub loop-preserved : goal.loop-preserved
 loop-preserved c =
     let a = c.args in
     let l = c.loop in
-    let left = due a.count l.counter c.loop-test.true in (
+    let left = one_left a.count l.counter c.loop-test.true in (
       l.invariant.0 ∙ elim c.else-number_at-eq-MQCFT_STRING.branch [
         | else-number_at-eq-MQCFT_STRING-via-then-number_at-eq-MQCFT_STRING+else-number_at-id w ↦
             miss a.s.now l.at _ _ _ a.id _ _ left c.behind-at.ensures c.number_at.ensures w.number_at-then-number_at-eq-MQCFT_STRING.ensures

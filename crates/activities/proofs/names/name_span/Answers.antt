@@ -26,21 +26,21 @@ first_string-requires c =
 pub returns-in_err-data : goal.returns-in_err-data
 returns-in_err-data c =
     let a = c.args in
-    rw c.from_residual.ensures (name_missing (terms_of a.terms) a.msg.now a.len a.n a.id c.in-Ok.t c.in-Ok.ensures (sym c.in_err-data.ensures))
+    rw c.from_residual.ensures (name_missing (terms_of a.terms) a.msg.now a.len a.n a.id c.in-Ok.t c.in-Ok.ensures c.in_err-data.ensures)
 
 pub overflow_add-data : goal.overflow_add-data
 overflow_add-data c =
     let a = c.args in
-    omega (arith, string_fits (terms_of a.terms) a.msg.now a.len a.n a.id c.in-Ok.t c.in-Ok.ensures (span_in c.in_ok-data.data) (sym c.in_ok-data.ensures))
+    omega (arith, string_fits (terms_of a.terms) a.msg.now a.len a.n a.id c.in-Ok.t c.in-Ok.ensures (span_in c.in_ok-data.data) c.in_ok-data.ensures)
 
 pub slice_bounds-kept-end : goal.slice_bounds-kept-end
 slice_bounds-kept-end c =
     let a = c.args in
-    string_fits (terms_of a.terms) a.msg.now a.len a.n a.id c.in-Ok.t c.in-Ok.ensures (span_in c.in_ok-data.data) (sym c.in_ok-data.ensures)
+    string_fits (terms_of a.terms) a.msg.now a.len a.n a.id c.in-Ok.t c.in-Ok.ensures (span_in c.in_ok-data.data) c.in_ok-data.ensures
 
 pub returns : goal.returns
 returns c =
     let a = c.args in
     let s = c.in_ok-data.data in
     ap (λ (x : ℕ). in_message (record { place = s.place; length = x })) (c.kept.ensures ∙ ap (λ (l : List ℕ). length (trimmed l)) (span_bytes a.msg.now s (span_in s) refl))
-    ∙ name_found (terms_of a.terms) a.msg.now a.len a.n a.id c.in-Ok.t c.in-Ok.ensures (span_in s) (sym c.in_ok-data.ensures)
+    ∙ name_found (terms_of a.terms) a.msg.now a.len a.n a.id c.in-Ok.t c.in-Ok.ensures (span_in s) c.in_ok-data.ensures
