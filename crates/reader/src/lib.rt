@@ -61,6 +61,7 @@ pub fn look(msg: &[u8], layout: Layout, at: Cursor) -> Result<Stepped, Refusal>
 // The n-th structure of the top level, from 0: those before it are passed over with all that is inside them, and nothing
 // behind it is read. Like one step it gives 1 or 18, then 3 or 4, and does not judge the PCF header; where none is left it
 // gives 3.
+#[tactic(auto, using(pcf::proofs::Openings::reaches, crate::proofs::Tops::nowhere, crate::proofs::Tops::bytes_there, crate::proofs::Tops::faulty))]
 pub fn nth_top(msg: &[u8], layout: Layout, n: u32) -> Result<Stepped, Refusal>
     ensures { answered stepped_of result ≡ nth_top (layout_of layout) msg.now n }
 {
