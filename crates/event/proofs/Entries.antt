@@ -7,6 +7,7 @@ use native.Mathlib.Omega.{arith}
 use lib.ListN.{length}
 use Rattle.meaning.specs.Bytes.{Part as Meant, number, bytes4, splice, store}
 use Rattle.meaning.specs.Answer.{accepted, refused}
+use Rattle.meaning.specs.Structure.{Row}
 use Rattle.meaning.specs.Layout.{Layout as MeantLayout, start_of, part_in, user_data}
 use Rattle.meaning.specs.Trace.{Terms, Trace, value, value_place, read_trace}
 use Rattle.meaning.specs.Event.{State, Event, discontinuity, activity, Answer, Done, done, denied, sound_event, group_of, Plan, plan_of, decide, grown_if, reported_if, part_held, user_held, applied, decided, performed, leaving, on_trace, event_on}
@@ -23,7 +24,7 @@ use Rattle.layout.specs.declared.part.Part.{Part}
 use Rattle.trace.specs.declared.location.Traced.{Traced}
 use Rattle.verdict.specs.Plans.{settings_of}
 use Rattle.verdict.specs.declared.plan.Settings.{Settings}
-use Rattle.event.specs.Written.{written_in, Writable, Ready, Countable}
+use Rattle.event.specs.Written.{written_in, Writable, Ready}
 
 -- a sound group is short enough for a report
 sound_most : (e : Event) → sound_event e ≡ true → length (group_of e) ≤ 65500
@@ -154,6 +155,13 @@ module _ (buf : List ℕ) (len : ℕ) (l : Layout) (t : Traced) (plan : Plan) (g
         let w' : applied (layout_of l) st g t.places plan ≡ left (part_at buf t.part) = w ∙ ap left ready.lies in
         let m : len + cond plan.appends (length g) 0 ≡ x.message_length = ap (λ (y : Done). y.message_length) (decide_done t.values plan (length g) len (length buf) (length report) x d) in
         rw (d, w', b, h, m) refl
+
+-- A discontinuity is counted in a trace that was read.
+pub record Countable (buf : List ℕ) (len : ℕ) (s : Settings) (t : Traced) : Type 0 where
+  pub sheet : List ℕ
+  pub rows : List Row
+  pub read : read_trace (record { sheet = sheet; layout = layout_of s.layout }) buf len ≡ accepted (record { rows = rows; places = t.places; values = t.values })
+  pub lies : part_in (layout_of s.layout) buf len ≡ part_at buf t.part
 
 -- A DISCONTINUITY THAT IS COUNTED: it is ready with no group, whatever the report buffer
 module _ (buf : List ℕ) (len : ℕ) (s : Settings) (t : Traced) (c : Countable buf len s t) where

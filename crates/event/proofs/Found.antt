@@ -19,10 +19,10 @@ use Rattle.trace.specs.Locations.{traced_by}
 use Rattle.trace.specs.declared.location.Traced.{Traced}
 use Rattle.trace.proofs.Locating.{traced_refused, Found, found}
 use Rattle.verdict.specs.Plans.{settings_of, activity_of}
-use Rattle.event.specs.Written.{Ready, Countable}
+use Rattle.event.specs.Written.{Ready}
 use Rattle.verdict.specs.declared.plan.Level.{Level}
 use Rattle.verdict.specs.declared.plan.Settings.{Settings}
-use Rattle.event.proofs.Entries.{event_refused, event_unsound}
+use Rattle.event.proofs.Entries.{Countable, event_refused, event_unsound}
 
 -- only 10 says that a reply is owed, and Read never refuses with it
 not_owed : (r : Refusal) → (number_of r ≡ 10 → ⊥) → owed r ≡ false

@@ -1,9 +1,7 @@
 -- An event on a message, in the meaning's terms.
-use Rattle.std.specs.Prelude.{ℕ, ◌≡◌, List, [], length, Result, Ok, Err}
-use Rattle.meaning.specs.Event.{discontinuity, plan_of, State, Outcome, applied, leaving, decide, event}
+use Rattle.std.specs.Prelude.{ℕ, ◌≡◌, List, Result, Ok, Err}
+use Rattle.meaning.specs.Event.{discontinuity, State, Outcome, event}
 use Rattle.refusals.specs.declared.Refusal.{Refusal}
-use Rattle.layout.specs.Layouts.{layout_of}
-use Rattle.trace.specs.declared.location.Traced.{Traced}
 use Rattle.verdict.specs.Plans.{settings_of, answer_of}
 use Rattle.verdict.specs.declared.plan.Settings.{Settings}
 use Rattle.verdict.specs.declared.answer.Done.{Done}
@@ -25,10 +23,3 @@ outcome r len buf report = record { answer = answer_of r; next = record { buf = 
 abbrev pub Discontinues : List ℕ → Settings → List ℕ → ℕ → Result Done Refusal → List ℕ → Type 0
 Discontinues sheet s buf len r buf' =
     (report : List ℕ) → outcome r len buf' report ≡ event sheet (state buf len report) (discontinuity (settings_of s))
-
--- the same for a trace that was read
-abbrev pub Counts : List ℕ → ℕ → Settings → Traced → Result Done Refusal → List ℕ → Type 0
-Counts buf len s t r buf' =
-    (report : List ℕ) → outcome r len buf' report
-    ≡ leaving (state buf len report) (applied (layout_of s.layout) (state buf len report) [] t.places (plan_of t.values (discontinuity (settings_of s))))
-    (decide t.values (plan_of t.values (discontinuity (settings_of s))) 0 len (length buf) (length report))

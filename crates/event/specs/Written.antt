@@ -10,7 +10,6 @@ use Rattle.layout.specs.Layouts.{form_of, layout_of, part_at}
 use Rattle.layout.specs.declared.part.Layout.{Layout}
 use Rattle.layout.specs.declared.part.Part.{Part}
 use Rattle.trace.specs.declared.location.Traced.{Traced}
-use Rattle.verdict.specs.declared.plan.Settings.{Settings}
 
 -- the buffer with the number at `at` one higher than `value`; and, if the group is appended, with the part grown by it
 abbrev pub written_in : List ℕ → ℕ → Layout → Part → ℕ → ℕ → Bool → List ℕ → List ℕ
@@ -42,10 +41,3 @@ pub record Ready (buf : List ℕ) (len : ℕ) (l : Layout) (t : Traced) (plan : 
   pub sound_group : sound_event happened ≡ true
   pub due : plan_of t.values happened ≡ plan
   pub lent : group_of happened ≡ group
-
--- A discontinuity is counted in a trace that was read.
-pub record Countable (buf : List ℕ) (len : ℕ) (s : Settings) (t : Traced) : Type 0 where
-  pub sheet : List ℕ
-  pub rows : List Row
-  pub read : read_trace (record { sheet = sheet; layout = layout_of s.layout }) buf len ≡ accepted (record { rows = rows; places = t.places; values = t.values })
-  pub lies : part_in (layout_of s.layout) buf len ≡ part_at buf t.part

@@ -1,21 +1,19 @@
-// An event on a trace that was read: decided, and then written.
+// An activity on a trace that was read: decided, and then written.
 ghost use Rattle.std.specs.Prelude.{◌≡◌, length};
 ghost use Rattle.meaning.specs.Event.{applied, decide as decide_on, leaving};
 ghost use Rattle.layout.specs.Layouts.{layout_of};
 ghost use Rattle.verdict.specs.Plans.{planned};
-ghost use Rattle.event.specs.Events.{outcome, state, Counts};
-ghost use Rattle.event.specs.Written.{Ready, Countable};
+ghost use Rattle.event.specs.Events.{outcome, state};
+ghost use Rattle.event.specs.Written.{Ready};
 
 use crate::written::{write_message, write_report};
-use attributes::DISCONTINUITY_COUNT;
 use layout::Layout;
 use refusals::Refusal;
 use trace::Traced;
-use verdict::{Done, Plan, Settings, decide, plan_discontinuity};
-use wire::put_number;
+use verdict::{Done, Plan, decide};
 
 // Behind Type, StrucLength and Parameter of an integer stands its Value.
-const VALUE: usize = 12;
+pub const VALUE: usize = 12;
 
 // All refusals come before the first byte is written.
 pub fn enter(
@@ -52,24 +50,5 @@ pub fn enter(
     if plan.reports {
         write_report(report, group);
     }
-    Ok(done)
-}
-
-// A discontinuity writes one number, and reports nothing.
-pub fn count(
-    buf: &mut [u8],
-    len: usize,
-    settings: Settings,
-    traced: Traced,
-) -> Result<Done, Refusal>
-    requires { Countable buf.old len settings traced }
-    ensures { Counts buf.old len settings traced result buf.new }
-{
-    let done = decide(traced.values, plan_discontinuity(), 0, len, buf.len(), 0)?;
-    put_number(
-        buf,
-        traced.places[DISCONTINUITY_COUNT] + VALUE,
-        traced.values[DISCONTINUITY_COUNT] + 1,
-    );
     Ok(done)
 }

@@ -15,14 +15,15 @@ ghost use Rattle.meaning.specs.Event.{event};
 ghost use Rattle.verdict.specs.Plans.{activity_of};
 ghost use Rattle.event.specs.Events.{outcome, state, Discontinues};
 
-use attributes::Terms;
-use entered::{count, enter};
+use attributes::{DISCONTINUITY_COUNT, Terms};
+use entered::{VALUE, enter};
 use group::group_ok;
 use refusals::Refusal;
 use trace::trace_of;
-use verdict::{Done, Level, Settings, plan_activity};
+use verdict::{Done, Level, Settings, decide, plan_activity, plan_discontinuity};
+use wire::put_number;
 
-// A DISCONTINUITY: DiscontinuityCount rises by one. Of its settings only the layout plays a part.
+// A DISCONTINUITY: DiscontinuityCount rises by one, and that number alone is written. Of its settings only the layout plays a part.
 pub fn discontinuity(
     buf: &mut [u8],
     len: usize,
@@ -33,7 +34,13 @@ pub fn discontinuity(
 {
     let layout = settings.layout;
     let traced = trace_of(buf, len, Terms { layout, sheet }, 0)?;
-    count(buf, len, settings, traced)
+    let done = decide(traced.values, plan_discontinuity(), 0, len, buf.len(), 0)?;
+    put_number(
+        buf,
+        traced.places[DISCONTINUITY_COUNT] + VALUE,
+        traced.values[DISCONTINUITY_COUNT] + 1,
+    );
+    Ok(done)
 }
 
 // AN ACTIVITY with its level, the lent group, whether reports are asked for, and its settings. All refusals
