@@ -40,7 +40,8 @@ const PLAIN_TWICE: Terms = Terms {
     sheet: BAD_SHEET,
 };
 
-// The parts: the first groups and the names in them, one more than there are, and a number that no group can have.
+// The parts: the first groups and the names in them, one more than there are, and a number that no group can have. The functions
+// that hand out parts take buffer and length, as C does, and so do these checks of them.
 fn show_parts(msg: &[u8], len: usize, terms: Terms, groups: usize) {
     for n in 0..groups {
         show_group(msg, len, terms, n);
