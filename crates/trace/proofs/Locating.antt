@@ -19,7 +19,7 @@ use Rattle.meaning.specs.Trace.{Terms, Trace, sheet_ok, trace_fields, trace_head
 use Rattle.meaning.specs.Activity.{no_group}
 use Rattle.meaning.specs.Compose.{header_fields, trace_header_fields}
 use Rattle.meaning.proofs.Tests.{and_true, and_false, then_accepted, then_refused}
-use Rattle.meaning.proofs.Walks.{Walks, walks, walks_as, walk_of, in_nil, tiles, tiles_row, tiles_from}
+use Rattle.meaning.proofs.Walks.{Walks, walks, walks_as, walk_of, in_nil, tiles, tiles_row}
 use Rattle.meaning.proofs.Parts.{num_part}
 use Rattle.meaning.proofs.Tops.{TopAt, all_at, all_groups, tops_at}
 use Rattle.meaning.proofs.Layouts.{sized}
@@ -31,28 +31,24 @@ use Rattle.pcf.proofs.Openings.{Begun as Opened-as, walk_part, scan_opened, begu
 use Rattle.header.specs.Headers.{fields_of, starts_with}
 use Rattle.trace.specs.Passing.{is_sound}
 use Rattle.trace.specs.Groups.{whole_group, counted, tops_of, surveyed}
-use Rattle.trace.specs.Locations.{Within, Headed, attributes_by, attributes_in, judged_in, lying, traced, traced_by}
+use Rattle.trace.specs.Locations.{Headed, attributes_by, attributes_in, judged_in, lying, traced, traced_by}
 use Rattle.trace.specs.declared.groups.Tops.{Tops}
 use Rattle.trace.specs.declared.location.Traced.{Traced}
 use Rattle.trace.specs.declared.groups.Group.{Group}
 use Rattle.trace.specs.declared.groups.Counted.{Counted}
 use Rattle.header.specs.declared.Kind.TheVariants.{Trace as trace}
-use Rattle.trace.proofs.Marking.{Every, Placed, every_direct}
+use Rattle.trace.proofs.Marking.{Every, every_direct}
 
--- WHERE THE MEMBERS of a group stand: behind its start, and in the message
+-- WHERE THE MEMBERS of a group stand: in the message
 module _ (m : Part) (p n : ℕ) where
-  every_row : (w : Result Walked) → walk m p 2 n ≡ w → Every (λ r. (p ≤ r.place) × (r.place + 16 ≤ m.end)) (rows_in w)
+  every_row : (w : Result Walked) → walk m p 2 n ≡ w → Every (λ r. r.place + 16 ≤ m.end) (rows_in w)
   every_row (accepted w) e r i =
-      let t = tiles (walks m p 2 n w.rows w.next e) in
-      let g = tiles_row m p w.rows w.next t r i in
-      (tiles_from m p w.rows w.next t r i, omega (arith, g.at_fits, g.at_least))
+      let g = tiles_row m p w.rows w.next (tiles (walks m p 2 n w.rows w.next e)) r i in
+      omega (arith, g.at_fits, g.at_least)
   every_row (refused k q) e r i = absurd (in_nil i)
 
-  pub every_member : Every (λ r. (p ≤ r.place) × (r.place + 16 ≤ m.end)) (direct_in (rows_in (walk m p 2 n)))
-  every_member = every_direct (λ r. (p ≤ r.place) × (r.place + 16 ≤ m.end)) (rows_in (walk m p 2 n)) (every_row (walk m p 2 n) refl)
-
-  pub members_placed : 2 ≤ p → Placed (direct_in (rows_in (walk m p 2 n)))
-  members_placed h r i = omega (arith, (every_member r i).0)
+  pub every_member : Every (λ r. r.place + 16 ≤ m.end) (direct_in (rows_in (walk m p 2 n)))
+  every_member = every_direct (λ r. r.place + 16 ≤ m.end) (rows_in (walk m p 2 n)) (every_row (walk m p 2 n) refl)
 
 -- 8, by its two tests
 module _ (sheet : List ℕ) (m : Part) (members : List Row) (activity : Group) (part : PartIn) where
@@ -156,10 +152,6 @@ module _ (m : Part) (p count : ℕ) (rows : List Row) (tree : Walks m p 1 count 
       → walk m (whole_group (get_or (groups id rows) n no_group)).inside 2 (whole_group (get_or (groups id rows) n no_group)).members ≡ walked (get_or (groups id rows) n no_group).inside (nth_at id n h).next
   unfolding whole_group
   nth_walk id n h = let t = nth_at id n h in walk_of t.within t.ends
-
-  nth_behind : (id n : ℕ) → n < length (groups id rows) → p ≤ (whole_group (get_or (groups id rows) n no_group)).inside
-  unfolding whole_group
-  nth_behind id n h = omega (arith, (nth_at id n h).behind)
 
   route_members : length (trace_routes rows) ≡ 1
       → direct_in (rows_in (walk m (counted MQGACF_TRACE_ROUTE 0 rows).group.inside 2 (counted MQGACF_TRACE_ROUTE 0 rows).group.members)) ≡ direct_members (trace_routes rows)
@@ -284,16 +276,13 @@ module _ {tm : Terms} {buf : List ℕ} {len : ℕ} {o : Opening} (g : Begun tm b
           ∙ ap (λ (x : Part). and_then (read_trace tm buf len) (λ y. accepted (traced n x y))) (sym same)
 
       -- the survey went over the members of the one TraceRoute group
-      route_within : s.routes.count ≡ 1 → Within (take o.part.end buf) s.routes.group.inside s.routes.group.members
+      route_within : s.routes.count ≡ 1 → is_sound (walk (whole (take o.part.end buf)) s.routes.group.inside 2 s.routes.group.members) ≡ true
       unfolding counted
       route_within =
-          subst (λ (x : Counted). x.count ≡ 1 → Within (take o.part.end buf) x.group.inside x.group.members) (sym t.routes)
+          subst (λ (x : Counted). x.count ≡ 1 → is_sound (walk (whole (take o.part.end buf)) x.group.inside 2 x.group.members) ≡ true) (sym t.routes)
           (λ i.
           let first : 0 < length (trace_routes t.rows) = omega arith in
-          record {
-            sound = ap is_sound (sym (walk_part buf o.part lies.there _ 2 _) ∙ nth_walk M (o.part.start + 36) o.count t.rows tree MQGACF_TRACE_ROUTE 0 first);
-            behind = omega (arith, nth_behind M (o.part.start + 36) o.count t.rows tree MQGACF_TRACE_ROUTE 0 first);
-          })
+          ap is_sound (sym (walk_part buf o.part lies.there _ 2 _) ∙ nth_walk M (o.part.start + 36) o.count t.rows tree MQGACF_TRACE_ROUTE 0 first))
 
       pub headed : Headed buf o s.routes
       headed = record {

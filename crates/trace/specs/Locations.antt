@@ -45,15 +45,10 @@ judged_in sheet m routes activity =
     (unless (eqb routes.count 1) (refused no_trace_route 0)
     (attributes_in sheet m routes.group.inside routes.group.members activity (lying m)))
 
--- a group's members are sound, and stand behind the header
-pub record Within (s : List ℕ) (inside members : ℕ) : Type 0 where
-  pub sound : is_sound (walk (whole s) inside 2 members) ≡ true
-  pub behind : 2 ≤ inside
-
--- the header is sound, its count is known, and the members of a group that was counted are sound behind it
+-- the header is sound, its count is known, and the members of a group that was counted are sound
 pub record Headed (msg : List ℕ) (o : Opening) (routes : Counted) : Type 0 where
   pub there : o.part.end ≤ length msg
   pub least : o.part.start + 36 ≤ o.part.end
   pub sound : header_ok (part_at msg o.part) ≡ true
   pub read : o.count ≡ number msg (o.part.start + 32)
-  pub within : routes.count ≡ 1 → Within (take o.part.end msg) routes.group.inside routes.group.members
+  pub within : routes.count ≡ 1 → is_sound (walk (whole (take o.part.end msg)) routes.group.inside 2 routes.group.members) ≡ true

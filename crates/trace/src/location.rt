@@ -1,13 +1,15 @@
 // Where the attributes of a trace are, what they are, and where its Activity groups are: the refusals of Read.
-ghost use Rattle.std.specs.Prelude.{◌≡◌};
+ghost use Rattle.std.specs.Prelude.{◌≡◌, true};
+ghost use Rattle.meaning.specs.Walk.{walk};
 ghost use Rattle.meaning.specs.Bytes.{whole};
 ghost use Rattle.refusals.specs.Refusals.{answer};
 ghost use Rattle.layout.specs.Layouts.{part_at};
 ghost use Rattle.attributes.specs.Terms.{terms_of};
-ghost use Rattle.trace.specs.Locations.{Within, Headed, attributes_in, judged_in, traced_by};
+ghost use Rattle.trace.specs.Passing.{is_sound};
+ghost use Rattle.trace.specs.Locations.{Headed, attributes_in, judged_in, traced_by};
 
 use crate::groups::{Group, Tops, survey};
-use crate::members::{all_found, marks_of, values_at};
+use crate::members::{marks_of, places_of, values_at};
 use attributes::{Terms, in_range, sheet_ok};
 use header::{Kind, has_header};
 use layout::{HEADER, Part};
@@ -32,13 +34,13 @@ fn attributes(
     route: Group,
     activity: Group,
 ) -> Result<Traced, Refusal>
-    requires { Within s.now route.inside route.members }
+    requires { is_sound (walk (whole s.now) route.inside 2 route.members) ≡ true }
     ensures { answer result ≡ attributes_in sheet (whole s.now) route.inside route.members activity part }
 {
-    let places = marks_of(s, route.inside, route.members, sheet);
-    if !all_found(places) {
+    let marks = marks_of(s, route.inside, route.members, sheet);
+    let Some(places) = places_of(marks) else {
         return Err(Refusal::BadAttribute);
-    }
+    };
     let values = values_at(s, places);
     if !in_range(values) {
         return Err(Refusal::BadAttribute);
