@@ -27,6 +27,7 @@ pub fn sheet_ok(sheet: [u32; 8]) -> bool
     let mut sound = true;
     for i in 0..8 {
         let x = sheet[i];
+        // all tests are made here too
         sound &= (1 <= x) & (x < TWO_TO_31) & alone(sheet, i);
     }
     sound

@@ -87,7 +87,8 @@ fn embedded_ok(msg: &[u8]) -> bool
         && end % 4 == 0
 }
 
-// THE PART of the message in the first `len` bytes, or 1, then 18.
+// THE PART of the message in the first `len` bytes, or 1, then 18. Here and in all that asks for a message's part, buffer and
+// length are two parameters: C hands both, and a length above the buffer is no slice but a refusal, 1.
 #[tactic(auto, using(crate::proofs::Locations::short, crate::proofs::Locations::found_plain, crate::proofs::Locations::unsound, crate::proofs::Locations::found_embedded))]
 pub fn locate(msg: &[u8], len: usize, layout: Layout) -> Result<Part, Refusal>
     ensures { answered (part_at msg.now) result ≡ located (layout_of layout) msg.now len }

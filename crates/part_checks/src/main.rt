@@ -35,7 +35,7 @@ const EMBEDDED: Terms = Terms {
     sheet: SHEET,
 };
 
-const PLAIN_TWICE: Terms = Terms {
+const PLAIN_BAD_SHEET: Terms = Terms {
     layout: Layout { form: Form::Plain },
     sheet: BAD_SHEET,
 };
@@ -87,7 +87,7 @@ fn show_plain() {
     say(b"refused: shorter than a header\n");
     show(&buffer, 35, PLAIN, 1, 1);
     say(b"refused: a sheet with an identifier twice\n");
-    show(&buffer, 312, PLAIN_TWICE, 1, 1);
+    show(&buffer, 312, PLAIN_BAD_SHEET, 1, 1);
     put_none(&mut buffer);
     say(b"a trace without Activity groups\n");
     show(&buffer, 180, PLAIN, 1, 2);

@@ -120,7 +120,7 @@ fn structures(msg: &[u8], opening: Opening) -> Result<Tallied, Refusal>
     })
 }
 
-// TALLY: how many structures of each type a message has, beside the check's answer.
+// TALLY: how many structures of each type a message has, and in all; or 1, 18, or 2 to 5, as the check answers.
 #[tactic(auto, using(crate::proofs::Openings::opened_reaches, crate::proofs::Openings::scan_opened), unfolding(meaning::specs::Message::check, meaning::specs::Message::tally))]
 pub fn tally(msg: &[u8], len: usize, layout: Layout) -> Result<Tallied, Refusal>
     ensures { TalliedAs (layout_of layout) msg.now len result }

@@ -29,6 +29,7 @@ pub fn read(msg: &[u8], len: usize, terms: Terms) -> Result<Values, Refusal>
     ensures { answered values_of result ≡ read_of (terms_of terms) msg.now len }
 {
     let t = trace_of(msg, len, terms, 0)?;
+    // an array leaves a struct by a variable: the borrow checker knows no other way
     let values = t.values;
     Ok(Values {
         values,

@@ -50,7 +50,9 @@ fn too_short(s: &[u8], place: usize) -> bool
 }
 
 // The structure ends where the bytes do or before, and its length is a multiple of 4 and keeps its type's rule. No rule allows
-// less than 16 bytes, so that its fields up to `first`, the one at 12, are there.
+// less than 16 bytes, so that its fields up to `first`, the one at 12, are there. It stays a call: compiled into `extent_at`, it
+// would make that too large for the walks.
+#[inline(never)]
 #[tactic(auto, using(crate::proofs::Soundness::tiny), unfolding(crate::specs::Rows::sound_in, crate::specs::Rules::field_of, meaning::specs::Bytes::word))]
 fn is_sound(s: &[u8], place: usize, kind: u32, size: u32, first: u32) -> bool
     requires { Fields s.now place (length s.now) first }
@@ -113,10 +115,11 @@ fn group_kept(size: u32, first: u32) -> bool
 }
 
 // The same without the row, for those who only pass over it. It is a function of its own, and not what `structure_at` gives
-// with two fields left out, because it is the fast form: a walk asks this of each structure that it meets, so it is compiled
-// into the walk. Integers and groups, which most structures are, are judged at once, and how far they reach is not read but
-// known, so that the walk does not wait for it; all else goes by the table.
-#[inline(always)]
+// with two fields of its row, because it is the fast form: a walk asks this of each structure that it meets, so it is kept small
+// enough to be compiled into the walk. (With `inline(always)` the walk over a flat message takes 1.4 of the time.) Integers and
+// groups, which most structures are, are judged at once, and how far they reach is not read but known, so that the walk does not
+// wait for it; all else goes by the table.
+#[inline]
 #[tactic(auto, using(meaning::proofs::Structures::structure_short), unfolding(crate::specs::Rows::sound_in, meaning::specs::Structure::structure_at, meaning::specs::Structure::judge, meaning::specs::Structure::length_rule, meaning::specs::Bytes::word))]
 pub fn extent_at(s: &[u8], place: usize, depth: u32) -> Result<Extent, Refusal>
     ensures { answered extent_of result ≡ reach_of (structure_at (whole s.now) place depth) }

@@ -19,7 +19,7 @@ pub struct Line {
 }
 
 // How many digits v has. Most numbers of a listing are small, so the small ones come first. A table of ranges is faster than
-// `checked_ilog10`, which proves as well: a listing's column takes 5.6 ns with it and 7.1 ns without.
+// `checked_ilog10`, which proves as well: a listing's column takes 5.6 ns with the table and 7.1 ns with that.
 fn width(v: u32) -> usize
     ensures { result ≡ length (decimal v) }
 {

@@ -1,5 +1,5 @@
 -- What a counter is, what a walk with one comes to, and the two counters that there are: the number of structures, and the
--- number of each type.
+-- number of each type. The laws of the two stand here with their proofs, because the code names them where it implements `Counter`.
 use Rattle.std.specs.Prelude.{ℕ, zero, suc, ◌+◌, ◌≤◌, ◌<◌, ◌≡◌, refl, List, [], ◌∷◌, ◌++◌, length, get_or}
 use Rattle.std.proofs.Common.{arith}
 use native.Mathlib.Nat.{add-zero}

@@ -28,6 +28,7 @@ pub fn siblings(
     ensures { answered walked_of result ≡ tallied tally (walk (whole s.now) place depth count) }
 {
     let reached = walk(s, place, depth, count, tally)?;
+    // an array leaves a struct by a variable: the borrow checker knows no other way
     let tally = reached.seen;
     Ok(Walked {
         behind: reached.behind,

@@ -12,7 +12,7 @@ use structure::{Extent, extent_at};
 use wire::number_at;
 
 // The place behind the last structure, and what was counted up to there.
-#[derive(Clone, Copy)]
+#[derive(Clone, Copy, Debug, PartialEq, Eq)]
 pub struct Reached<C> {
     pub behind: usize,
     pub seen: C,
@@ -25,13 +25,12 @@ pub fn walk<C: Counter>(
     place: usize,
     depth: u32,
     count: u32,
-    seen: C,
+    mut seen: C,
 ) -> Result<Reached<C>, Refusal>
     requires { C.Room seen (length s.now - place) }
     ensures { answered reached_of result ≡ counting C.counted seen (walk (whole s.now) place depth count) }
 {
     let mut behind = place;
-    let mut seen = seen;
     for _ in 0..count {
         // a match: with a `?` the walk over a flat message takes 1.4 times as long
         match extent_at(s, behind, depth) {
