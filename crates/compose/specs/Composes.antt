@@ -10,6 +10,7 @@ use Rattle.refusals.specs.declared.Refusal.{Refusal}
 abbrev pub plain_layout : Layout
 plain_layout = record { form = plain }
 
+-- what the caller of a plain message states about it
 abbrev pub plain_terms : List ℕ → Terms
 plain_terms sheet = record { sheet = sheet; layout = plain_layout }
 
