@@ -4,7 +4,7 @@ ghost use Rattle.refusals.specs.Refusals.{number_of, place_of, owed};
 ghost use Rattle.verdict.specs.Plans.{level_of, answer_of};
 ghost use Rattle.codes.specs.Events.{level_in, Brief, Tells};
 
-use crate::code::given;
+use crate::code::{given, refused};
 use attributes::{MQROUTE_DETAIL_HIGH, MQROUTE_DETAIL_MEDIUM};
 use refusals::Refusal;
 use verdict::{Done, Level};
@@ -14,7 +14,7 @@ fn denied(r: Refusal) -> u64
     requires { place_of r ≤ 65536 }
     ensures { result ≡ (place_of r + cond (owed r) 1 0) * 32 + number_of r }
 {
-    (r.place() as u64 + u64::from(r.reply_owed())) * 32 + u64::from(r.number())
+    refused(r) + u64::from(r.reply_owed()) * 32
 }
 
 // What an event did, or the refusal.

@@ -14,7 +14,8 @@ const COUNT: usize = 32;
 
 // Writes `value` one higher at `at`, where the counter's Value stands. If the group is to be appended, the part grows: an embedded
 // header's StrucLength rises by the group's length, the PCF header's ParameterCount by one, the user data moves back, and the group
-// is written from the part's old end on.
+// is written from the part's old end on. Its parameters are many because it knows nothing of traces and plans: it is the definition
+// `written_in`, which has them all.
 pub fn write_message(
     buf: &mut [u8],
     len: usize,

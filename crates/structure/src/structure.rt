@@ -24,7 +24,8 @@ const FIXED: u32 = 16;
 const MOST_DEPTH: u32 = 8;
 
 // A structure: its depth, 1 at the top; its place; Type, Parameter and StrucLength; and how many structures follow inside
-// it: a group's ParameterCount, 0 for every other type.
+// it: a group's ParameterCount, 0 for every other type. The type is the number that stands in the message, which may be any: so it
+// is listed, and told to C.
 #[derive(Clone, Copy, Debug, PartialEq, Eq)]
 pub struct Row {
     pub depth: u32,

@@ -80,6 +80,7 @@ pub fn survey(s: &[u8], first: usize, count: u32, n: usize) -> Result<Tops, Refu
     let mut routes = NONE_YET;
     let mut activities = NONE_YET;
     for _ in 0..count {
+        // a match, as in `pass`, which says why
         match pass(s, at, 1) {
             Err(r) => return Err(r),
             Ok(Crossing { row, behind }) => {

@@ -22,7 +22,7 @@ pub struct Crossing {
 pub fn pass(s: &[u8], place: usize, depth: u32) -> Result<Crossing, Refusal>
     ensures { answered crossing_of result ≡ crossed (whole s.now) place depth }
 {
-    // a match, as in the survey: with a `?` here and there the survey of a flat message takes twice as long
+    // a match, as in the survey: with a `?` in either place the survey of a flat message takes twice as long
     match extent_at(s, place, depth) {
         Err(r) => Err(r),
         Ok(Extent { size, members }) => {

@@ -4,7 +4,7 @@
 ghost use Rattle.std.specs.Prelude.{◌≡◌, ◌<◌, length};
 ghost use Rattle.words.specs.Words.{words_of, words_room, Says};
 
-// The words of a refusal's number. They leave room for the zero byte.
+// The words of a refusal's number: C has no more of it than that. They leave room for the zero byte.
 #[tactic(auto, unfolding(crate::specs::Words::words_of, crate::specs::Words::said_in))]
 fn words(number: u32) -> &'static [u8]
     ensures { (result.now ≡ words_of number) × (length result.now < words_room) }
