@@ -15,7 +15,7 @@ pub struct Span {
 }
 
 // Where the n-th Activity group is, from 0, with all that is inside it; nothing, at the message's start, if there is none or
-// if message or sheet is refused as in Read.
+// if message or sheet is refused as in Read: the definition `activity_group` has that part, and C is told it.
 #[tactic(auto, using(crate::proofs::Parts::activity_traced, crate::proofs::Parts::activity_lost))]
 pub fn activity_span(msg: &[u8], len: usize, terms: Terms, n: usize) -> Span
     ensures { span_in result ≡ activity_group (terms_of terms) msg.now len n }

@@ -62,7 +62,8 @@ fn first_string(s: &[u8], place: usize, count: u32, id: u32) -> Option<Span>
 }
 
 // Where the first direct string with the identifier in the n-th Activity group is, without its trailing blanks and zero bytes;
-// nothing, and then the substitute stands for it, if message or sheet is refused as in Read or there is no such string.
+// nothing, and then the substitute stands for it, if message or sheet is refused as in Read or there is no such string. (C needs place
+// and length, and the rules name the returned part, which `named_string` cuts by them.)
 pub fn name_span(msg: &[u8], len: usize, terms: Terms, n: usize, id: u32) -> Option<Span>
     ensures { named_in result ≡ name_of (terms_of terms) msg.now len n id }
 {

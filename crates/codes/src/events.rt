@@ -37,7 +37,7 @@ pub fn told(found: Result<Done, Refusal>, done: &mut [u64; 4]) -> u64
 }
 
 // A level by its number, which is Detail's value for it: the C interface. What is neither medium nor high is low, which can be
-// recorded under every Detail.
+// recorded under every Detail. (It is no `From`: that would stand with the type, in `verdict`, which knows no numbers of C.)
 pub fn level_of(level: u32) -> Level
     ensures { level_of result ≡ level_in level }
 {

@@ -26,7 +26,7 @@ fn field(kind: Kind, i: usize) -> u32
     requires { i < 9 }
     ensures { result ≡ get_or (fields_of kind) i 0 }
 {
-    // by case, so that a known field of a known header is a constant
+    // by case, so that a known field of a known header is a constant; an index made of the kind would be no plainer
     match kind {
         Kind::Trace => FIELDS[0][i],
         Kind::Report => FIELDS[1][i],

@@ -1,4 +1,4 @@
-// The lines of all Activity groups of a sound trace.
+// The lines of all Activity groups of a sound trace. (Text and the place in it are two parameters, as in `text`, which says why.)
 ghost use Rattle.std.specs.Prelude.{◌≡◌};
 ghost use Rattle.layout.specs.Layouts.{layout_of};
 ghost use Rattle.attributes.specs.Terms.{terms_of};

@@ -29,7 +29,8 @@ fn format_of(msg: &[u8]) -> [u8; 8]
     format
 }
 
-// What stands for the embedding of a message that has none.
+// What stands for the embedding of a message that has none: all 0, as the definition `no_embedding` has it, which the clauses of Read
+// and Compose are about.
 pub fn no_embedding() -> Embedding
     ensures { embedding_in result ≡ no_embedding }
 {

@@ -1,4 +1,5 @@
-// The lines of all structures of a message that was checked.
+// The lines of all structures of a message that was checked. (Text and the place in it are two parameters, as in `text`, which says
+// why.)
 ghost use Rattle.std.specs.Prelude.{◌≡◌, ◌+◌, ◌≤◌, length};
 ghost use Rattle.meaning.specs.Bytes.{whole};
 ghost use Rattle.meaning.specs.Walk.{walk};

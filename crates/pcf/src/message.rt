@@ -25,7 +25,8 @@ pub struct Tallied {
     pub counts: [u32; 27],
 }
 
-// A place in a message, and the depth of the structure there.
+// A place in a message, and the depth of the structure there. (Where structures are walked over the two are apart, as in the
+// definitions `structure_at` and `walk`: the place goes on at each structure, the depth stays.)
 #[derive(Clone, Copy, Debug, PartialEq, Eq)]
 pub struct Cursor {
     pub place: usize,
@@ -75,7 +76,7 @@ pub fn structure_count(msg: &[u8], opening: Opening) -> Result<u32, Refusal>
     let part = opening.part;
     let passed = over(&msg[..part.end], part.start + HEADER, 1, opening.count)?;
     if passed.behind == part.end {
-        Ok(passed.number as u32)
+        Ok(passed.seen as u32)
     } else {
         Err(Refusal::LeftOver(passed.behind))
     }
@@ -97,7 +98,8 @@ fn total(counts: [u32; 27]) -> u32
     counts.iter().sum()
 }
 
-// A part with a sound header: all its structures are walked over, and nothing may follow.
+// A part with a sound header: all its structures are walked over, and nothing may follow. What it shares with `structure_count` is
+// that last test; one function for both would have to carry the counts for the check too.
 fn structures(msg: &[u8], opening: Opening) -> Result<Tallied, Refusal>
     requires { Reaches msg.now opening.part }
     ensures { RowsTallied (structures_of (part_at msg.now opening.part) opening.count) result }
@@ -113,7 +115,7 @@ fn structures(msg: &[u8], opening: Opening) -> Result<Tallied, Refusal>
     if walked.behind != part.end {
         return Err(Refusal::LeftOver(walked.behind));
     }
-    let counts = walked.tally;
+    let counts = walked.seen;
     Ok(Tallied {
         number: total(counts),
         counts,

@@ -1,6 +1,7 @@
 // The lines of a listing as text. Each writer puts its text into the lent bytes from a place on, leaves every other byte as it
 // was, and answers the place behind the text. Buffer and place stay two parameters: of a struct that holds both, what comes back
-// to the lender has no name that a proof could cite.
+// to the lender has no name that a proof could cite. The library's `write!` writes no line here, since it promises no text: `Wrote`
+// says each byte.
 #![tactic(auto)]
 
 ghost use Rattle.std.specs.Prelude.{◌≡◌, length};

@@ -12,7 +12,8 @@ use refusals::Refusal;
 use structure::{MQCFT_GROUP, Row};
 
 // A group: its place, the place of what is inside it, its length with all of that, and how many direct members it has. All are 0
-// where there is none: the meaning of an Activity group that is not there is the empty part at 0.
+// where there is none, and no Option says so: the definition `activity_group`, which the clause of `activities::activity_span` is
+// about, has the empty part at 0 for none, and a route that is not there is refused by its count.
 #[derive(Clone, Copy, Debug, PartialEq, Eq)]
 pub struct Group {
     pub place: usize,

@@ -16,8 +16,8 @@ use layout::{HEADER, Part};
 use pcf::{Opening, opened};
 use refusals::Refusal;
 
-// The places and the values of the eight attributes of a sound trace, an Activity group, and the part that the trace is in its
-// message.
+// The places and the values of the eight attributes of a sound trace, two lists as in the definition `Trace`; an Activity group, and
+// the part that the trace is in its message.
 #[derive(Clone, Copy, Debug, PartialEq, Eq)]
 pub struct Traced {
     pub places: [usize; 8],

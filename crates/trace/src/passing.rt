@@ -48,7 +48,8 @@ pub fn pass(s: &[u8], place: usize, depth: u32) -> Result<Crossing, Refusal>
 }
 
 // The place behind a structure that is known to be sound, and behind all that is inside it. Its fields are read and not checked
-// again: whoever goes over the members of a group that was surveyed asks this of each.
+// again: whoever goes over the members of a group that was surveyed asks this of each. (That they are sound is a fact of bytes, place,
+// depth and count together, none of which the others always go with: so it stands in four contracts, and in no type.)
 #[tactic(auto, using(crate::proofs::Skipping::known_room, crate::proofs::Skipping::known_fits))]
 pub fn behind(s: &[u8], place: usize, depth: u32) -> usize
     requires { is_sound (crossed (whole s.now) place depth) ≡ true }

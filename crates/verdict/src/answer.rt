@@ -14,8 +14,8 @@ use refusals::Refusal;
 
 const MOST_COUNT: u32 = 2147483647;
 
-// What an accepted event did: the counter that rose, whether the group was appended, the report's length or 0, and the
-// message's length now.
+// What an accepted event did: the counter that rose, whether the group was appended, the report's length or, as the definition
+// `done_by` has it, 0, and the message's length now.
 #[derive(Clone, Copy, Debug, PartialEq, Eq)]
 pub struct Done {
     pub counter: Counter,

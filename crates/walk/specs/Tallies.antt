@@ -4,7 +4,7 @@ use Rattle.meaning.specs.Answer.{Result, accepted, and_then}
 use Rattle.meaning.specs.Structure.{Row}
 use Rattle.meaning.specs.Walk.{Walked as Rows}
 use Rattle.meaning.specs.Message.{count_of}
-use Rattle.walk.specs.declared.tallying.Walked.{Walked}
+use Rattle.walk.specs.declared.walking.Reached.{Reached}
 
 -- the counts, which are of the types from k on, with what the rows add to each
 unfoldable pub added : ℕ → List ℕ → List Row → List ℕ
@@ -24,8 +24,8 @@ pub record Tally : Type 0 where
 abbrev pub tallied : List ℕ → Result Rows → Result Tally
 tallied t w = and_then w (λ x. accepted (record { behind = x.next; counts = added 0 t x.rows }))
 
-abbrev pub walked_of : Walked → Tally
-walked_of w = record { behind = w.behind; counts = w.tally }
+abbrev pub walked_of : Reached (List ℕ) → Tally
+walked_of r = record { behind = r.behind; counts = r.seen }
 
 -- no count is above p: each structure counted lies before p
 abbrev pub Low : List ℕ → ℕ → Type 0

@@ -5,33 +5,20 @@ ghost use Rattle.meaning.specs.Walk.{walk};
 ghost use Rattle.refusals.specs.Refusals.{answered};
 ghost use Rattle.walk.specs.Tallies.{tallied, walked_of, Walkable};
 
-use crate::walking::walk;
+use crate::walking::{Reached, walk};
 use refusals::Refusal;
 
-// The place behind the last structure, and a count for each type, 0 to 26.
-#[derive(Clone, Copy, Debug, PartialEq, Eq)]
-pub struct Walked {
-    pub behind: usize,
-    pub tally: [u32; 27],
-}
-
 // Walks over `count` structures from `place` on, of this depth, and over all that is inside them; or the first fault. The
-// counts go in, and come back raised at one place for each structure.
+// counts for the types 0 to 26 go in, and come back raised at one place for each structure.
 pub fn siblings(
     s: &[u8],
     place: usize,
     depth: u32,
     count: u32,
     tally: [u32; 27],
-) -> Result<Walked, Refusal>
+) -> Result<Reached<[u32; 27]>, Refusal>
     requires { Walkable s.now place tally }
     ensures { answered walked_of result ≡ tallied tally (walk (whole s.now) place depth count) }
 {
-    let reached = walk(s, place, depth, count, tally)?;
-    // an array leaves a struct by a variable: the borrow checker knows no other way
-    let tally = reached.seen;
-    Ok(Walked {
-        behind: reached.behind,
-        tally,
-    })
+    walk(s, place, depth, count, tally)
 }

@@ -1,6 +1,5 @@
-// Numbers in bytes, and bytes over bytes. Every number of a message is read by `number_at` and written by `put_number`, and every
-// run of bytes is written by `copy` and `copy_to`. (Single bytes are read by the search for a name's end, and written by the
-// listing's text.)
+// Numbers in bytes, and bytes over bytes. Every number of a message is read by `number_at` and written by `put_number`, and its
+// groups, user data and parts are written by `copy` and `copy_to`.
 #![tactic(auto)]
 
 ghost use Rattle.std.specs.Prelude.{◌≡◌, ◌+◌, ◌≤◌, length, get_or, take, drop};
