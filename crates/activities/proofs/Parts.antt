@@ -1,5 +1,5 @@
 -- The part of the message that an Activity group is, from the trace that was read.
-use mathlib.Core.Path.{◌≡◌, refl, ap}
+use mathlib.Core.Path.{◌≡◌, refl, ap, ◌∙◌}
 use mathlib.Core.Bool.{Bool, true, false}
 use mathlib.Core.List.{List}
 use Prim.Native.Nat.{ℕ, ◌+◌, ◌-◌, ◌≤◌}
@@ -16,17 +16,24 @@ use Rattle.meaning.specs.Trace.{Terms, Trace, activities, read_trace}
 use Rattle.meaning.specs.Activity.{Span, bytes_in, size_of, span_of, no_group, nth_activity, activity_group}
 use Rattle.meaning.proofs.Sound.{sound}
 use Rattle.trace.specs.Groups.{whole_group, counted}
-use Rattle.trace.specs.Locations.{traced}
-use Rattle.trace.proofs.Locating.{nth_at}
+use Rattle.trace.specs.Locations.{traced_by}
+use Rattle.trace.specs.declared.groups.Group.{Group}
+use Rattle.trace.specs.declared.location.Traced.{Traced}
+use Rattle.trace.proofs.Locating.{found, nth_at, traced_refused}
 use Rattle.activities.specs.Spans.{span_in}
 use Rattle.activities.specs.declared.group.Span.{Span as Handed}
 
 -- THE ACTIVITY GROUP that goes with the trace
-pub activity_traced : (n : ℕ) (m : Part) (r : Result Trace)
-    → record { place = (traced n m r).activity.place; length = (traced n m r).activity.length } ≡ span_of (nth_activity r n)
-unfolding counted whole_group size_of
-activity_traced n m (accepted t) = refl
-activity_traced n m (refused k p) = refl
+module _ (n : ℕ) (tm : Terms) (buf : List ℕ) (len : ℕ) where
+  pub activity_traced : (o : Traced) → accepted o ≡ traced_by n tm buf len → record { place = o.activity.place; length = o.activity.length } ≡ activity_group tm buf len n
+  unfolding activity_group counted whole_group size_of
+  activity_traced o h =
+      let f = found n tm buf len o h in
+      ap (λ (g : Group). record { place = g.place; length = g.length }) f.activity ∙ rw f.read refl
+
+  pub activity_lost : (k p : ℕ) → refused k p ≡ traced_by n tm buf len → record { place = 0; length = 0 } ≡ activity_group tm buf len n
+  unfolding activity_group size_of
+  activity_lost k p h = rw (traced_refused n tm buf len k p h) refl
 
 -- it lies in the message
 span_in_lem : (tm : Terms) (buf : List ℕ) (len : ℕ) (t : Trace) → read_trace tm buf len ≡ accepted t → (n : ℕ) → (span_of (get_or (activities t.rows) n no_group)).place + (span_of (get_or (activities t.rows) n no_group)).length ≤ length buf
@@ -41,7 +48,7 @@ span_in_lem tm buf len t e n = go (ltb n (length (activities t.rows))) refl
         omega (arith, g.fills, g.ends, s.lies.within, s.lies.there)
     go false h = rw (get_or-eq_default (activities t.rows) no_group (ltb-false n (length (activities t.rows)) h)) (omega arith)
 
-pub activity_in_lem : (tm : Terms) (buf : List ℕ) (len n : ℕ) → (activity_group tm buf len n).place + (activity_group tm buf len n).length ≤ length buf
+activity_in_lem : (tm : Terms) (buf : List ℕ) (len n : ℕ) → (activity_group tm buf len n).place + (activity_group tm buf len n).length ≤ length buf
 unfolding activity_group size_of
 activity_in_lem tm buf len n = go (read_trace tm buf len) refl
   where
@@ -49,12 +56,11 @@ activity_in_lem tm buf len n = go (read_trace tm buf len) refl
     go (accepted t) e = span_in_lem tm buf len t e n
     go (refused k p) e = omega arith
 
--- the part of the message that a span is
-module _ (buf : List ℕ) (s : Handed) (x : Span) (e : span_in s ≡ x) where
-  pub span_end : x.place + x.length ≤ length buf → s.place + s.length ≤ length buf
-  span_end h = omega (arith, ap (λ (y : Span). y.place) e, ap (λ (y : Span). y.length) e)
+pub activity_end : (tm : Terms) (buf : List ℕ) (len n : ℕ) (p k : ℕ) → record { place = p; length = k } ≡ activity_group tm buf len n → p + k ≤ length buf
+activity_end tm buf len n p k e = omega (arith, activity_in_lem tm buf len n, ap (λ (y : Span). y.place) e, ap (λ (y : Span). y.length) e)
 
-  pub span_bytes : take (s.place + s.length - s.place) (drop s.place buf) ≡ bytes_in buf x
-  span_bytes =
-      let d : s.place + s.length - s.place ≡ s.length = omega arith in
-      rw d (ap (bytes_in buf) e)
+-- the part of the message that a span is
+pub span_bytes : (buf : List ℕ) (s : Handed) (x : Span) → span_in s ≡ x → take (s.place + s.length - s.place) (drop s.place buf) ≡ bytes_in buf x
+span_bytes buf s x e =
+    let d : s.place + s.length - s.place ≡ s.length = omega arith in
+    rw d (ap (bytes_in buf) e)

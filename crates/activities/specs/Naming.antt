@@ -1,5 +1,5 @@
 -- A named string as the code hands it out, in the meaning's terms.
-use Rattle.std.specs.Prelude.{ℕ, ◌≡◌, List, [], ◌∷◌}
+use Rattle.std.specs.Prelude.{ℕ, ◌≡◌, List, [], ◌∷◌, Option, Some, None}
 use Rattle.std.specs.Borrow.{Bor}
 use Rattle.meaning.specs.Bytes.{Part}
 use Rattle.meaning.specs.Answer.{Result, accepted, refused}
@@ -8,12 +8,12 @@ use Rattle.meaning.specs.Walk.{Walked}
 use Rattle.meaning.specs.Trace.{direct_in, named}
 use Rattle.meaning.specs.Activity.{Name, in_message, substitute, strings, string_at}
 use Rattle.activities.specs.Spans.{span_in, SliceAt}
-use Rattle.activities.specs.declared.names.Named.{Named}
-use Rattle.activities.specs.declared.names.Named.TheVariants.{InMessage, Substitute}
+use Rattle.activities.specs.declared.group.Span.{Span}
 
-abbrev pub named_in : Named → Name
-named_in (InMessage s) = in_message (span_in s)
-named_in Substitute = substitute
+-- a part of the message, or the lent substitute where there is none
+abbrev pub named_in : Option Span → Name
+named_in (Some s) = in_message (span_in s)
+named_in None = substitute
 
 -- the data of the first of the rows
 abbrev pub first_data : Part → List Row → Name

@@ -5,4 +5,4 @@ mod group;
 mod names;
 
 pub use group::{Span, activity_group, activity_span};
-pub use names::{Named, name_span, named_string};
+pub use names::{name_span, named_string};

@@ -1,8 +1,7 @@
--- The eight identifiers as the code gets them, in the meaning's terms.
-use Rattle.std.specs.Prelude.{ℕ, List}
-use Rattle.meaning.specs.Layout.{Layout}
-use Rattle.meaning.specs.Trace.{Terms}
+-- What the caller states about a trace as the code has it, in the meaning's terms.
+use Rattle.meaning.specs.Trace.{Terms as Meant}
+use Rattle.layout.specs.Layouts.{layout_of}
+use Rattle.attributes.specs.declared.terms.Terms.{Terms}
 
--- what the caller states about a message
-abbrev pub terms_of : Layout → List ℕ → Terms
-terms_of l sheet = record { sheet = sheet; layout = l }
+abbrev pub terms_of : Terms → Meant
+terms_of t = record { sheet = t.sheet; layout = layout_of t.layout }

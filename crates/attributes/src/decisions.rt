@@ -1,7 +1,8 @@
 // Forwarding and arrival, judged by the eight values of a trace.
 ghost use Rattle.std.specs.Prelude.{◌≡◌};
 ghost use Rattle.meaning.specs.Decision.{forward_by, arrive_by};
-ghost use Rattle.attributes.specs.Decisions.{judged_of};
+ghost use Rattle.refusals.specs.Refusals.{answered};
+ghost use Rattle.attributes.specs.Decisions.{decision_of};
 
 use crate::names::{
     DELIVER, FORWARD, MQROUTE_DELIVER_YES, MQROUTE_FORWARD_IF_SUPPORTED, REJECT_UNSUPPORTED,
@@ -10,48 +11,48 @@ use crate::ranges::any_bit;
 use refusals::Refusal;
 
 // What is done with the message.
-#[derive(Clone, Copy)]
+#[derive(Clone, Copy, Debug, PartialEq, Eq)]
 pub enum Decision {
     Forward,
     PutLocally,
     Withhold,
 }
 
-// The decision, or a refusal.
-#[derive(Clone, Copy)]
-pub enum Judged {
-    Decided(Decision),
-    Refused(Refusal),
-}
-
 // Forwarding to a remote manager that supports trace-route messaging or does not. If it does not, Deliver is judged first,
 // and where Deliver says yes Forward is not looked at.
-pub fn forward_by(v: [u32; 8], supporting: bool) -> Judged
-    ensures { judged_of result ≡ forward_by v supporting }
+#[tactic(auto, unfolding(meaning::specs::Decision::forward_by, meaning::specs::Decision::unrecognised, meaning::specs::Decision::deliver_yes, meaning::specs::Decision::if_supported))]
+pub fn forward_by(v: [u32; 8], supporting: bool) -> Result<Decision, Refusal>
+    ensures { answered decision_of result ≡ forward_by v supporting }
 {
-    if !supporting & any_bit(v[DELIVER], REJECT_UNSUPPORTED) {
-        return Judged::Refused(Refusal::UnsupportedDelivery);
+    if !supporting {
+        if any_bit(v[DELIVER], REJECT_UNSUPPORTED) {
+            return Err(Refusal::UnsupportedDelivery);
+        }
+        if any_bit(v[DELIVER], MQROUTE_DELIVER_YES) {
+            return Ok(Decision::Forward);
+        }
     }
-    let open = supporting | !any_bit(v[DELIVER], MQROUTE_DELIVER_YES);
-    if open & any_bit(v[FORWARD], REJECT_UNSUPPORTED) {
-        return Judged::Refused(Refusal::UnsupportedForwarding);
+    if any_bit(v[FORWARD], REJECT_UNSUPPORTED) {
+        return Err(Refusal::UnsupportedForwarding);
     }
-    if (open & !supporting) & any_bit(v[FORWARD], MQROUTE_FORWARD_IF_SUPPORTED) {
-        return Judged::Refused(Refusal::NotForwarded);
+    if !supporting && any_bit(v[FORWARD], MQROUTE_FORWARD_IF_SUPPORTED) {
+        return Err(Refusal::NotForwarded);
     }
-    Judged::Decided(Decision::Forward)
+    Ok(Decision::Forward)
 }
 
 // Arrival at the queue manager that the message is for.
-pub fn arrive_by(v: [u32; 8]) -> Judged
-    ensures { judged_of result ≡ arrive_by v }
+#[tactic(auto, unfolding(meaning::specs::Decision::arrive_by, meaning::specs::Decision::unrecognised, meaning::specs::Decision::deliver_yes))]
+pub fn arrive_by(v: [u32; 8]) -> Result<Decision, Refusal>
+    ensures { answered decision_of result ≡ arrive_by v }
 {
-    if any_bit(v[DELIVER], REJECT_UNSUPPORTED) {
-        return Judged::Refused(Refusal::UnsupportedDelivery);
+    let deliver = v[DELIVER];
+    if any_bit(deliver, REJECT_UNSUPPORTED) {
+        return Err(Refusal::UnsupportedDelivery);
     }
-    if any_bit(v[DELIVER], MQROUTE_DELIVER_YES) {
-        Judged::Decided(Decision::PutLocally)
+    if any_bit(deliver, MQROUTE_DELIVER_YES) {
+        Ok(Decision::PutLocally)
     } else {
-        Judged::Decided(Decision::Withhold)
+        Ok(Decision::Withhold)
     }
 }

@@ -1,5 +1,6 @@
 // The eight attributes by name: their positions in a sheet, in a list of values and in a list of places; the values that IBM
-// has names for; and the identifiers of the two groups of a trace.
+// has names for; and the identifiers of the two groups of a trace. The three are lists of eight and no structs: C hands sheet and
+// values so, and the rules speak of such lists.
 pub const DETAIL: usize = 0;
 
 pub const RECORDED_ACTIVITIES: usize = 1;

@@ -17,5 +17,5 @@ pub fn refused(r: Refusal) -> u64
     requires { place_of r ≤ 4294967296 }
     ensures { result ≡ place_of r * 32 + number_of r }
 {
-    refusals::place(r) as u64 * 32 + refusals::number(r) as u64
+    r.place() as u64 * 32 + u64::from(r.number())
 }

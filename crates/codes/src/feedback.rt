@@ -10,7 +10,8 @@ const MQFB_UNSUPPORTED_FORWARDING: u32 = 285;
 
 const MQFB_UNSUPPORTED_DELIVERY: u32 = 286;
 
-// The code that goes with a refusal's number, 0 for none.
+// The code that goes with a refusal's number, which is the C interface; 0 for none.
+#[tactic(auto, unfolding(crate::specs::Feedbacks::feedback_of))]
 pub fn feedback_of(refusal: u32) -> u32
     ensures { result ≡ feedback_of refusal }
 {

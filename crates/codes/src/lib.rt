@@ -11,4 +11,4 @@ pub use code::{given, refused};
 pub use events::{level_of, told};
 pub use feedback::feedback_of;
 pub use options::{Options, layout_of, options_of};
-pub use results::{checked, composed, judged, listed};
+pub use results::{Given, coded};

@@ -1,69 +1,58 @@
 // The answers of the entries as one number each.
-ghost use Rattle.std.specs.Prelude.{◌≡◌};
-ghost use Rattle.pcf.specs.Messages.{checked_of};
-ghost use Rattle.listing.specs.Entries.{listed_of};
-ghost use Rattle.compose.specs.Composes.{composed_of};
-ghost use Rattle.attributes.specs.Decisions.{decision_of, judged_of};
+ghost use Rattle.std.specs.Prelude.{◌≡◌, ℕ};
+ghost use Rattle.refusals.specs.Refusals.{answered};
+ghost use Rattle.attributes.specs.Decisions.{decision_of};
 ghost use Rattle.codes.specs.Codes.{code, Fits};
-ghost use Rattle.codes.specs.Decisions.{decision_number, decided_number};
+ghost use Rattle.codes.specs.Decisions.{decision_number};
 
 use crate::code::{given, refused};
-use attributes::{Decision, Judged};
-use compose::Composed;
-use listing::Listed;
-use pcf::Checked;
+use attributes::Decision;
+use refusals::Refusal;
 
-// The check's answer.
-pub fn checked(found: Checked) -> u64
-    requires { Fits (checked_of found) }
-    ensures { result ≡ code (checked_of found) }
-{
-    match found {
-        Checked::Sound(n) => given(n as usize),
-        Checked::Refused(r) => refused(r),
+// What an entry gives: a number for C stands for it.
+pub trait Given {
+    ghost number: { Self → ℕ };
+
+    fn number(self) -> usize
+        ensures { result ≡ number self };
+}
+
+impl Given for u32 {
+    ghost number = { λ n. n };
+
+    fn number(self) -> usize {
+        self as usize
     }
 }
 
-// The listing's answer.
-pub fn listed(found: Listed) -> u64
-    requires { Fits (listed_of found) }
-    ensures { result ≡ code (listed_of found) }
-{
-    match found {
-        Listed::Text(n) => given(n),
-        Listed::Refused(r) => refused(r),
+impl Given for usize {
+    ghost number = { λ n. n };
+
+    fn number(self) -> usize {
+        self
     }
 }
 
-// Compose's answer.
-pub fn composed(found: Composed) -> u64
-    requires { Fits (composed_of found) }
-    ensures { result ≡ code (composed_of found) }
-{
-    match found {
-        Composed::Written(n) => given(n),
-        Composed::Refused(r) => refused(r),
+// The numbers of the decisions are the C interface.
+impl Given for Decision {
+    ghost number = { λ d. decision_number (decision_of d) };
+
+    fn number(self) -> usize {
+        match self {
+            Decision::Forward => 1,
+            Decision::PutLocally => 2,
+            Decision::Withhold => 3,
+        }
     }
 }
 
-// A decision's number for C.
-fn number_of(decision: Decision) -> usize
-    ensures { result ≡ decision_number (decision_of decision) }
-{
-    match decision {
-        Decision::Forward => 1,
-        Decision::PutLocally => 2,
-        Decision::Withhold => 3,
-    }
-}
-
-// A decision, or the refusal.
-pub fn judged(found: Judged) -> u64
-    requires { Fits (decided_number (judged_of found)) }
-    ensures { result ≡ code (decided_number (judged_of found)) }
+// What an entry answers, whatever it gives.
+pub fn coded<T: Given>(found: Result<T, Refusal>) -> u64
+    requires { Fits (answered T.number found) }
+    ensures { result ≡ code (answered T.number found) }
 {
     match found {
-        Judged::Decided(d) => given(number_of(d)),
-        Judged::Refused(r) => refused(r),
+        Ok(x) => given(x.number()),
+        Err(r) => refused(r),
     }
 }

@@ -3,13 +3,13 @@ ghost use Rattle.std.specs.Prelude.{◌≡◌, ◌∷◌, [], ◌+◌, ◌≤◌
 ghost use Rattle.meaning.specs.Bytes.{words, splice};
 ghost use Rattle.meaning.specs.Layout.{no_embedding};
 ghost use Rattle.meaning.specs.Compose.{composed as composed_of, compose as compose_of};
-ghost use Rattle.compose.specs.Composes.{composed_into, plain_layout};
+ghost use Rattle.compose.specs.Composes.{composed_into, plain_terms};
 ghost use Rattle.attributes.specs.Terms.{terms_of};
-ghost use Rattle.layout.specs.Layouts.{layout_of, embedding_in};
+ghost use Rattle.layout.specs.Layouts.{embedding_in};
 
-use attributes::{MQGACF_TRACE_ROUTE, in_range, sheet_ok};
+use attributes::{MQGACF_TRACE_ROUTE, Terms, in_range, sheet_ok};
 use header::{Kind, put_header};
-use layout::{Embedding, Laid, Layout, laid_out_length, put_around};
+use layout::{Embedding, Form, Layout, laid_out_length, no_embedding, put_around};
 use refusals::Refusal;
 use structure::{MQCFT_GROUP, MQCFT_INTEGER};
 use wire::put_number;
@@ -17,14 +17,8 @@ use wire::put_number;
 // The length of a composed part.
 const COMPOSED: usize = 180;
 
-// The length written, or 17, 8 or 12.
-#[derive(Clone, Copy)]
-pub enum Composed {
-    Written(usize),
-    Refused(Refusal),
-}
-
 // Writes four numbers from `at` on: a group's header, or an integer.
+#[tactic(auto, using(crate::proofs::Composing::four_words))]
 fn put_four(buf: &mut [u8], at: usize, kind: u32, size: u32, parameter: u32, last: u32)
     requires { at + 16 ≤ length buf.old }
     ensures { buf.new ≡ splice buf.old at (words (kind ∷ size ∷ parameter ∷ last ∷ [])) }
@@ -42,56 +36,40 @@ fn put_trace(buf: &mut [u8], sheet: [u32; 8], values: [u32; 8])
 {
     put_header(buf, Kind::Trace);
     put_four(buf, 36, MQCFT_GROUP, 16, MQGACF_TRACE_ROUTE, 8);
-    let mut k = 0;
-    while k < 8 {
+    for k in 0..8 {
         put_four(buf, 52 + k * 16, MQCFT_INTEGER, 16, sheet[k], values[k]);
-        k += 1;
     }
 }
 
-// COMPOSE A PLAIN MESSAGE: what `compose` does for a plain layout. It is a function of its own because what an embedded message
-// needs beside would make a plain one take a quarter longer.
-pub fn compose_plain(sheet: [u32; 8], values: [u32; 8], buf: &mut [u8]) -> Composed
-    ensures { composed_into result buf.new ≡ compose_of (terms_of plain_layout sheet) values no_embedding [] buf.old }
-{
-    if !sheet_ok(sheet) {
-        return Composed::Refused(Refusal::BadSheet);
-    }
-    if !in_range(values) {
-        return Composed::Refused(Refusal::BadAttribute);
-    }
-    if buf.len() < COMPOSED {
-        return Composed::Refused(Refusal::NoRoom);
-    }
-    put_trace(buf, sheet, values);
-    Composed::Written(COMPOSED)
-}
-
-// COMPOSE: writes the message to the start of the buffer: embedded, the header and the user data around the part. A refusal
-// changes nothing.
+// COMPOSE: writes the message to the start of the buffer: embedded, the header and the user data around the part. It answers the
+// length written, or 17, 8 or 12. A refusal changes nothing. It is compiled into those who ask it, so that a plain message pays
+// nothing for what an embedded one needs beside: as a call it takes a quarter longer.
+#[inline(always)]
 pub fn compose(
-    layout: Layout,
-    sheet: [u32; 8],
+    terms: Terms,
     values: [u32; 8],
     embedding: Embedding,
     user: &[u8],
     buf: &mut [u8],
-) -> Composed
-    ensures { composed_into result buf.new ≡ compose_of (terms_of (layout_of layout) sheet) values (embedding_in embedding) user.now buf.old }
+) -> Result<usize, Refusal>
+    ensures { composed_into result buf.new ≡ compose_of (terms_of terms) values (embedding_in embedding) user.now buf.old }
 {
-    if !sheet_ok(sheet) {
-        return Composed::Refused(Refusal::BadSheet);
+    if !sheet_ok(terms.sheet) {
+        return Err(Refusal::BadSheet);
     }
     if !in_range(values) {
-        return Composed::Refused(Refusal::BadAttribute);
+        return Err(Refusal::BadAttribute);
     }
-    let laid = laid_out_length(layout, COMPOSED, user.len(), buf.len());
-    match laid {
-        Laid::Refused(r) => Composed::Refused(r),
-        Laid::Length(n) => {
-            let start = put_around(buf, layout, embedding, COMPOSED, user);
-            put_trace(&mut buf[start..], sheet, values);
-            Composed::Written(n)
-        }
-    }
+    let length = laid_out_length(terms.layout, COMPOSED, user.len(), buf.len())?;
+    let start = put_around(buf, terms.layout, embedding, COMPOSED, user);
+    put_trace(&mut buf[start..], terms.sheet, values);
+    Ok(length)
+}
+
+// COMPOSE A PLAIN MESSAGE: its part, with nothing around it.
+pub fn compose_plain(sheet: [u32; 8], values: [u32; 8], buf: &mut [u8]) -> Result<usize, Refusal>
+    ensures { composed_into result buf.new ≡ compose_of (plain_terms sheet) values no_embedding [] buf.old }
+{
+    let layout = Layout { form: Form::Plain };
+    compose(Terms { layout, sheet }, values, no_embedding(), &[], buf)
 }

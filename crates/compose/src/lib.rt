@@ -3,4 +3,4 @@
 
 mod composition;
 
-pub use composition::{Composed, compose, compose_plain};
+pub use composition::{compose, compose_plain};

@@ -7,6 +7,7 @@ use native.Mathlib.Omega.{arith}
 use lib.ListN.{length}
 use Rattle.meaning.specs.Bytes.{Part as Meant, number, bytes4, splice, store}
 use Rattle.meaning.specs.Answer.{accepted, refused}
+use Rattle.meaning.specs.Structure.{Row}
 use Rattle.meaning.specs.Layout.{Layout as MeantLayout, start_of, part_in, user_data}
 use Rattle.meaning.specs.Trace.{Terms, Trace, value, value_place, read_trace}
 use Rattle.meaning.specs.Event.{State, Event, discontinuity, activity, Answer, Done, done, denied, sound_event, group_of, Plan, plan_of, decide, grown_if, reported_if, part_held, user_held, applied, decided, performed, leaving, on_trace, event_on}
@@ -20,10 +21,10 @@ use Rattle.meaning.proofs.Accepted.{decide_done}
 use Rattle.layout.specs.Layouts.{form_of, layout_of, part_at}
 use Rattle.layout.specs.declared.part.Layout.{Layout}
 use Rattle.layout.specs.declared.part.Part.{Part}
-use Rattle.attributes.specs.Terms.{terms_of}
+use Rattle.trace.specs.declared.location.Traced.{Traced}
 use Rattle.verdict.specs.Plans.{settings_of}
 use Rattle.verdict.specs.declared.plan.Settings.{Settings}
-use Rattle.event.specs.Written.{written_in, Writable, Ready, Countable}
+use Rattle.event.specs.Written.{written_in, Writable, Ready}
 
 -- a sound group is short enough for a report
 sound_most : (e : Event) → sound_event e ≡ true → length (group_of e) ≤ 65500
@@ -102,16 +103,16 @@ pub left_denied : (st st' : State) (a : Answer) (n p : ℕ) (o : Bool) → a ≡
 left_denied st st' a n p o e = rw e refl
 
 -- AN EVENT THAT IS READY, by its plan and group
-module _ (buf : List ℕ) (len : ℕ) (l : Layout) (p : Part) (places values : List ℕ) (plan : Plan) (g report : List ℕ)
-    (ready : Ready buf len l p places values plan g report) where
+module _ (buf : List ℕ) (len : ℕ) (l : Layout) (t : Traced) (plan : Plan) (g report : List ℕ)
+    (ready : Ready buf len l t plan g report) where
   abbrev st : State
   st = record { buf = buf; len = len; report = report }
 
   abbrev tm : Terms
-  tm = terms_of (layout_of l) ready.sheet
+  tm = record { sheet = ready.sheet; layout = layout_of l }
 
   abbrev trace : Trace
-  trace = record { rows = ready.rows; places = places; values = values }
+  trace = record { rows = ready.rows; places = t.places; values = t.values }
 
   in_order : Sound tm buf len trace
   in_order = sound tm buf len trace ready.read
@@ -123,75 +124,87 @@ module _ (buf : List ℕ) (len : ℕ) (l : Layout) (p : Part) (places values : L
   length_most = in_order.lies.most
 
   -- where the counter's Value lies
-  pub place_most : (c : ℕ) → c ≤ 3 → value places c + 16 ≤ 65536
+  pub place_most : (c : ℕ) → c ≤ 3 → value t.places c + 16 ≤ 65536
   place_most c h =
       omega (arith, in_order.lies.most, in_order.lies.within, (lies ready.sheet (part_in (layout_of l) buf len) trace in_order.sheet_ok_holds in_order.message c (omega arith)).inside)
 
-  module _ (x : Done) (d : decide values plan (length g) len (length buf) (length report) ≡ done x) where
-    as_decided : decided st ready.happened values ≡ done x
+  module _ (x : Done) (d : decide t.values plan (length g) len (length buf) (length report) ≡ done x) where
+    as_decided : decided st ready.happened t.values ≡ done x
     as_decided =
-        ap (λ (q : Plan). decide values q (length (group_of ready.happened)) len (length buf) (length report)) ready.due
-        ∙ ap (λ (y : List ℕ). decide values plan (length y) len (length buf) (length report)) ready.lent ∙ d
+        ap (λ (q : Plan). decide t.values q (length (group_of ready.happened)) len (length buf) (length report)) ready.due
+        ∙ ap (λ (y : List ℕ). decide t.values plan (length y) len (length buf) (length report)) ready.lent ∙ d
 
-    pub ready_writable : Writable buf len l p (value_place (value places plan.counter)) (value values plan.counter) plan.appends g
-    ready_writable = rw (ready.due, ready.lent) at (writable tm st ready.happened trace ready.read ready.sound_group x as_decided l p refl ready.lies)
+    pub ready_writable : Writable buf len l t.part (value_place (value t.places plan.counter)) (value t.values plan.counter) plan.appends g
+    ready_writable = rw (ready.due, ready.lent) at (writable tm st ready.happened trace ready.read ready.sound_group x as_decided l t.part refl ready.lies)
 
     pub ready_reportable : plan.reports ≡ true → 36 + length g ≤ length report
     ready_reportable = rw (ready.due, ready.lent) at (reportable tm st ready.happened trace ready.read ready.sound_group x as_decided)
 
     pub ready_written : (buf' report' : List ℕ)
-        → buf' ≡ written_in buf len l p (value_place (value places plan.counter)) (value values plan.counter) plan.appends g
+        → buf' ≡ written_in buf len l t.part (value_place (value t.places plan.counter)) (value t.values plan.counter) plan.appends g
         → report' ≡ reported_if plan.reports report g
         → record { answer = done x; next = record { buf = buf'; len = x.message_length; report = report' } }
-        ≡ leaving st (applied (layout_of l) st g places plan) (decide values plan (length g) len (length buf) (length report))
+        ≡ leaving st (applied (layout_of l) st g t.places plan) (decide t.values plan (length g) len (length buf) (length report))
     ready_written buf' report' b h =
         let w = rw (ready.due, ready.lent) at (written tm st ready.happened trace ready.read ready.sound_group x as_decided) in
         let left : Meant → State = λ P. record {
-          buf = grown_if plan.appends (form_of l.form) P (user_data P buf len) (store P buf (value_place (value places plan.counter)) (value values plan.counter + 1)) g;
+          buf = grown_if plan.appends (form_of l.form) P (user_data P buf len) (store P buf (value_place (value t.places plan.counter)) (value t.values plan.counter + 1)) g;
           len = len + cond plan.appends (length g) 0;
           report = reported_if plan.reports report g;
         } in
-        let w' : applied (layout_of l) st g places plan ≡ left (part_at buf p) = w ∙ ap left ready.lies in
-        let m : len + cond plan.appends (length g) 0 ≡ x.message_length = ap (λ (y : Done). y.message_length) (decide_done values plan (length g) len (length buf) (length report) x d) in
+        let w' : applied (layout_of l) st g t.places plan ≡ left (part_at buf t.part) = w ∙ ap left ready.lies in
+        let m : len + cond plan.appends (length g) 0 ≡ x.message_length = ap (λ (y : Done). y.message_length) (decide_done t.values plan (length g) len (length buf) (length report) x d) in
         rw (d, w', b, h, m) refl
 
+-- A discontinuity is counted in a trace that was read.
+pub record Countable (buf : List ℕ) (len : ℕ) (s : Settings) (t : Traced) : Type 0 where
+  pub sheet : List ℕ
+  pub rows : List Row
+  pub read : read_trace (record { sheet = sheet; layout = layout_of s.layout }) buf len ≡ accepted (record { rows = rows; places = t.places; values = t.values })
+  pub lies : part_in (layout_of s.layout) buf len ≡ part_at buf t.part
+
 -- A DISCONTINUITY THAT IS COUNTED: it is ready with no group, whatever the report buffer
-module _ (buf : List ℕ) (len : ℕ) (s : Settings) (places values : List ℕ) (c : Countable buf len s places values) where
+module _ (buf : List ℕ) (len : ℕ) (s : Settings) (t : Traced) (c : Countable buf len s t) where
   abbrev happened : Event
   happened = discontinuity (settings_of s)
 
   abbrev counting : Plan
-  counting = plan_of values happened
+  counting = plan_of t.values happened
 
-  as_ready : (report : List ℕ) → Ready buf len s.layout c.part places values counting [] report
+  as_ready : (report : List ℕ) → Ready buf len s.layout t counting [] report
   unfolding sound_event group_of
   as_ready report = record { sheet = c.sheet; rows = c.rows; happened = happened; read = c.read; lies = c.lies; sound_group = refl; due = refl; lent = refl }
 
   -- the report buffer plays no part
-  any_report : (m n : ℕ) → decide values counting 0 len (length buf) m ≡ decide values counting 0 len (length buf) n
+  any_report : (m n : ℕ) → decide t.values counting 0 len (length buf) m ≡ decide t.values counting 0 len (length buf) n
   unfolding decide plan_of
   any_report m n = refl
 
   pub count_length : len ≤ 65536
-  count_length = length_most buf len s.layout c.part places values counting [] [] (as_ready [])
+  count_length = length_most buf len s.layout t counting [] [] (as_ready [])
 
-  pub count_place_holds : value places 3 + 16 ≤ 65536
-  count_place_holds = place_most buf len s.layout c.part places values counting [] [] (as_ready []) 3 (omega arith)
+  pub count_place_holds : value t.places 3 + 16 ≤ 65536
+  count_place_holds = place_most buf len s.layout t counting [] [] (as_ready []) 3 (omega arith)
 
-  pub count_denied : (n p : ℕ) (o : Bool) → decide values counting 0 len (length buf) 0 ≡ denied n p o → (report : List ℕ)
-      → record { answer = denied n p o; next = record { buf = buf; len = len; report = report } }
-      ≡ leaving (record { buf = buf; len = len; report = report }) (applied (layout_of s.layout) (record { buf = buf; len = len; report = report }) [] places counting)
-      (decide values counting 0 len (length buf) (length report))
-  count_denied n p o d report = left_denied _ _ _ n p o (any_report (length report) 0 ∙ d)
+  -- the plan p is that of a discontinuity, and what was decided by it is a
+  module _ (p : Plan) (same : p ≡ counting) where
+    as_planned : (a : Answer) → a ≡ decide t.values p 0 len (length buf) 0 → (report : List ℕ) → decide t.values counting 0 len (length buf) (length report) ≡ a
+    as_planned a d report = any_report (length report) 0 ∙ ap (λ (q : Plan). decide t.values q 0 len (length buf) 0) (sym same) ∙ sym d
 
-  module _ (x : Done) (d : decide values counting 0 len (length buf) 0 ≡ done x) where
-    pub count_writable : Writable buf len s.layout c.part (value_place (value places 3)) (value values 3) false []
-    unfolding plan_of
-    count_writable = ready_writable buf len s.layout c.part places values counting [] [] (as_ready []) x (any_report 0 0 ∙ d)
+    pub count_denied : (n q : ℕ) (o : Bool) → denied n q o ≡ decide t.values p 0 len (length buf) 0 → (report : List ℕ)
+        → record { answer = denied n q o; next = record { buf = buf; len = len; report = report } }
+        ≡ leaving (record { buf = buf; len = len; report = report }) (applied (layout_of s.layout) (record { buf = buf; len = len; report = report }) [] t.places counting)
+        (decide t.values counting 0 len (length buf) (length report))
+    count_denied n q o d report = left_denied _ _ _ n q o (as_planned (denied n q o) d report)
 
-    pub count_written : (buf' : List ℕ) → buf' ≡ splice buf (value_place (value places 3)) (bytes4 (value values 3 + 1)) → (report : List ℕ)
-        → record { answer = done x; next = record { buf = buf'; len = x.message_length; report = report } }
-        ≡ leaving (record { buf = buf; len = len; report = report }) (applied (layout_of s.layout) (record { buf = buf; len = len; report = report }) [] places counting)
-        (decide values counting 0 len (length buf) (length report))
-    unfolding plan_of store
-    count_written buf' b report = ready_written buf len s.layout c.part places values counting [] report (as_ready report) x (any_report (length report) 0 ∙ d) buf' report b refl
+    module _ (x : Done) (d : done x ≡ decide t.values p 0 len (length buf) 0) where
+      pub count_writable : Writable buf len s.layout t.part (value_place (value t.places 3)) (value t.values 3) false []
+      unfolding plan_of
+      count_writable = ready_writable buf len s.layout t counting [] [] (as_ready []) x (as_planned (done x) d [])
+
+      pub count_written : (buf' : List ℕ) → buf' ≡ splice buf (value_place (value t.places 3)) (bytes4 (value t.values 3 + 1)) → (report : List ℕ)
+          → record { answer = done x; next = record { buf = buf'; len = x.message_length; report = report } }
+          ≡ leaving (record { buf = buf; len = len; report = report }) (applied (layout_of s.layout) (record { buf = buf; len = len; report = report }) [] t.places counting)
+          (decide t.values counting 0 len (length buf) (length report))
+      unfolding plan_of store
+      count_written buf' b report = ready_written buf len s.layout t counting [] report (as_ready report) x (as_planned (done x) d report) buf' report b refl

@@ -1,4 +1,3 @@
-mod Groups
 mod Writes
 mod Entries
 mod Found

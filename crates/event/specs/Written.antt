@@ -9,8 +9,7 @@ use Rattle.meaning.specs.Event.{Event, sound_event, group_of, Plan, plan_of, gro
 use Rattle.layout.specs.Layouts.{form_of, layout_of, part_at}
 use Rattle.layout.specs.declared.part.Layout.{Layout}
 use Rattle.layout.specs.declared.part.Part.{Part}
-use Rattle.attributes.specs.Terms.{terms_of}
-use Rattle.verdict.specs.declared.plan.Settings.{Settings}
+use Rattle.trace.specs.declared.location.Traced.{Traced}
 
 -- the buffer with the number at `at` one higher than `value`; and, if the group is appended, with the part grown by it
 abbrev pub written_in : List ℕ → ℕ → Layout → Part → ℕ → ℕ → Bool → List ℕ → List ℕ
@@ -31,26 +30,14 @@ pub record Writable (buf : List ℕ) (len : ℕ) (l : Layout) (p : Part) (at val
   pub group_most : length group ≤ 65500
   pub group_fits : appends ≡ true → len + length group ≤ length buf
 
--- a report that is due fits its buffer
-abbrev pub Reportable : Bool → List ℕ → List ℕ → Type 0
-Reportable due group report = due ≡ true → 36 + length group ≤ length report
-
--- An event e with this plan and group is entered into a trace that was read in this layout, with its part there, and with its
+-- An event with this plan and group is entered into a trace that was read in this layout, with its part there, and with its
 -- attributes at these places and with these values; its group is sound.
-pub record Ready (buf : List ℕ) (len : ℕ) (l : Layout) (p : Part) (places values : List ℕ) (plan : Plan) (group report : List ℕ) : Type 0 where
+pub record Ready (buf : List ℕ) (len : ℕ) (l : Layout) (t : Traced) (plan : Plan) (group report : List ℕ) : Type 0 where
   pub sheet : List ℕ
   pub rows : List Row
   pub happened : Event
-  pub read : read_trace (terms_of (layout_of l) sheet) buf len ≡ accepted (record { rows = rows; places = places; values = values })
-  pub lies : part_in (layout_of l) buf len ≡ part_at buf p
+  pub read : read_trace (record { sheet = sheet; layout = layout_of l }) buf len ≡ accepted (record { rows = rows; places = t.places; values = t.values })
+  pub lies : part_in (layout_of l) buf len ≡ part_at buf t.part
   pub sound_group : sound_event happened ≡ true
-  pub due : plan_of values happened ≡ plan
+  pub due : plan_of t.values happened ≡ plan
   pub lent : group_of happened ≡ group
-
--- A discontinuity is counted in a trace that was read.
-pub record Countable (buf : List ℕ) (len : ℕ) (s : Settings) (places values : List ℕ) : Type 0 where
-  pub sheet : List ℕ
-  pub rows : List Row
-  pub part : Part
-  pub read : read_trace (terms_of (layout_of s.layout) sheet) buf len ≡ accepted (record { rows = rows; places = places; values = values })
-  pub lies : part_in (layout_of s.layout) buf len ≡ part_at buf part

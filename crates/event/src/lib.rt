@@ -15,26 +15,32 @@ ghost use Rattle.meaning.specs.Event.{event};
 ghost use Rattle.verdict.specs.Plans.{activity_of};
 ghost use Rattle.event.specs.Events.{outcome, state, Discontinues};
 
-use entered::{count, enter};
+use attributes::{DISCONTINUITY_COUNT, Terms};
+use entered::{VALUE, enter};
 use group::group_ok;
 use refusals::Refusal;
 use trace::trace_of;
-use verdict::{Answer, Level, Settings, plan_activity};
+use verdict::{Done, Level, Settings, decide, plan_activity, plan_discontinuity};
+use wire::put_number;
 
-// A DISCONTINUITY: DiscontinuityCount rises by one. Of its settings only the layout plays a part.
-pub fn discontinuity(buf: &mut [u8], len: usize, sheet: [u32; 8], settings: Settings) -> Answer
+// A DISCONTINUITY: DiscontinuityCount rises by one, and that number alone is written. Of its settings only the layout plays a part.
+pub fn discontinuity(
+    buf: &mut [u8],
+    len: usize,
+    sheet: [u32; 8],
+    settings: Settings,
+) -> Result<Done, Refusal>
     ensures { Discontinues sheet settings buf.old len result buf.new }
 {
-    let found = trace_of(buf, len, settings.layout, sheet, 0);
-    let sought = found.answer;
-    match sought {
-        trace::Answer::Refused(r) => Answer::Refused(r),
-        trace::Answer::Found => {
-            let places = found.places;
-            let values = found.values;
-            count(buf, len, settings, places, values)
-        }
-    }
+    let layout = settings.layout;
+    let traced = trace_of(buf, len, Terms { layout, sheet }, 0)?;
+    let done = decide(traced.values, plan_discontinuity(), 0, len, buf.len(), 0)?;
+    put_number(
+        buf,
+        traced.places[DISCONTINUITY_COUNT] + VALUE,
+        traced.values[DISCONTINUITY_COUNT] + 1,
+    );
+    Ok(done)
 }
 
 // AN ACTIVITY with its level, the lent group, whether reports are asked for, and its settings. All refusals
@@ -48,24 +54,14 @@ pub fn activity(
     asked: bool,
     settings: Settings,
     report: &mut [u8],
-) -> Answer
+) -> Result<Done, Refusal>
     ensures { outcome result len buf.new report.new ≡ event sheet (state buf.old len report.old) (activity_of level group.now asked settings) }
 {
     let layout = settings.layout;
-    let found = trace_of(buf, len, layout, sheet, 0);
-    let sought = found.answer;
-    match sought {
-        trace::Answer::Refused(r) => Answer::Refused(r),
-        trace::Answer::Found => {
-            if group_ok(group) {
-                let places = found.places;
-                let values = found.values;
-                let part = found.part;
-                let plan = plan_activity(values, level, asked, settings);
-                enter(buf, len, layout, part, places, values, plan, group, report)
-            } else {
-                Answer::Refused(Refusal::BadGroup)
-            }
-        }
+    let traced = trace_of(buf, len, Terms { layout, sheet }, 0)?;
+    if !group_ok(group) {
+        return Err(Refusal::BadGroup);
     }
+    let plan = plan_activity(traced.values, level, asked, settings);
+    enter(buf, len, layout, traced, plan, group, report)
 }

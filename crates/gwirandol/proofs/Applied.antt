@@ -14,7 +14,6 @@ use Rattle.meaning.specs.Event.{Event, Answer, done, denied, Plan, State, over_l
 use Rattle.meaning.proofs.Tests.{clash}
 use Rattle.meaning.proofs.Sound.{sound}
 use Rattle.meaning.proofs.Outcomes.{read_refused}
-use Rattle.attributes.specs.Terms.{terms_of}
 use Rattle.codes.specs.Events.{Brief}
 
 -- THE ANSWER is brief: a message that is appended to stays below the most bytes
@@ -49,7 +48,7 @@ unfolding event event_on on_trace
 event_brief sheet st e = by (read_trace tm st.buf st.len) refl
   where
     tm : Terms
-    tm = terms_of (layout_named e) sheet
+    tm = record { sheet = sheet; layout = layout_named e }
 
     go : (t : Trace) → st.len ≤ 65536 → (b : Bool)
         → Brief (unless b (record { answer = denied 9 0 false; next = st }) (leaving st (performed (layout_named e) st e t) (decided st e t.values))).answer

@@ -1,3 +1,2 @@
 mod Reach
-mod Readings
 mod Applied

@@ -7,7 +7,8 @@ use lib.ListN.{length}
 use lib.Dec.{leb}
 use borrow.Author.Tests.{leb-true}
 use mathlib.Core.Bool.{Bool, true, false, not, ◌&&◌}
-use Rattle.meaning.specs.Answer.{Result, accepted, refused, and_then, unless, when}
+use Rattle.std.specs.Prelude.{Result, Ok, Err}
+use Rattle.meaning.specs.Answer.{Result as Meant, accepted, refused, and_then, unless, when}
 use Rattle.meaning.specs.Layout.{Layout, part_in, room_for, Embedding, embedding_of}
 use Rattle.meaning.specs.Trace.{Terms, Trace, value, sheet_ok, read_trace, Reading, read}
 use Rattle.meaning.specs.Names.{most_bytes, Forward as Forward·, Deliver}
@@ -22,10 +23,14 @@ use Rattle.meaning.proofs.Tallies.{rows_room}
 use Rattle.meaning.proofs.Sound.{sound_scan, sound}
 use Rattle.meaning.proofs.Outcomes.{scan_refused, read_refused}
 use Rattle.meaning.proofs.Lines.{listing_most}
+use Rattle.refusals.specs.Refusals.{answered}
+use Rattle.refusals.specs.declared.Refusal.{Refusal}
+use Rattle.attributes.specs.Decisions.{decision_of}
+use Rattle.attributes.specs.declared.decisions.Decision.{Decision as Told}
 use Rattle.codes.specs.Codes.{Fits}
-use Rattle.codes.specs.Decisions.{decided_number}
+use Rattle.codes.specs.Decisions.{decision_number, decided_number}
 
-check_of : (l : Layout) (buf : List ℕ) (len : ℕ) (r : Result (List Row)) → scan l buf len ≡ r → Fits (and_then r (λ rows. accepted (length rows)))
+check_of : (l : Layout) (buf : List ℕ) (len : ℕ) (r : Meant (List Row)) → scan l buf len ≡ r → Fits (and_then r (λ rows. accepted (length rows)))
 check_of l buf len (accepted rows) e =
     let a = sound_scan l buf len rows e in omega (arith, rows_room a.1.tree, a.0.within, a.0.most)
 check_of l buf len (refused n p) e = omega (arith, (scan_refused l buf len n p e).place)
@@ -34,7 +39,7 @@ pub check_fits : (l : Layout) (buf : List ℕ) (len : ℕ) → Fits (check l buf
 unfolding check
 check_fits l buf len = check_of l buf len (scan l buf len) refl
 
-list_of : (l : Layout) (buf : List ℕ) (len : ℕ) (r : Result (List Row)) → scan l buf len ≡ r
+list_of : (l : Layout) (buf : List ℕ) (len : ℕ) (r : Meant (List Row)) → scan l buf len ≡ r
     → Fits (and_then r (λ rows. accepted (length (listing_text (part_in l buf len) len rows))))
 list_of l buf len (accepted rows) e =
     let a = sound_scan l buf len rows e in
@@ -46,7 +51,7 @@ pub list_fits : (l : Layout) (buf : List ℕ) (len : ℕ) → Fits (and_then (sc
 list_fits l buf len = list_of l buf len (scan l buf len) refl
 
 -- Compose writes no more than a message may have, and its refusals have the place 0
-unless_fits : (b : Bool) (n : ℕ) (r : Result ℕ) → Fits r → Fits (unless b (refused n 0) r)
+unless_fits : (b : Bool) (n : ℕ) (r : Meant ℕ) → Fits r → Fits (unless b (refused n 0) r)
 unless_fits true n r h = h
 unless_fits false n r h = omega arith
 
@@ -67,7 +72,7 @@ pub read_small : (tm : Terms) (buf : List ℕ) (len n p : ℕ) → read tm buf l
 unfolding read
 read_small tm buf len n p e = by (read_trace tm buf len) refl e
   where
-    by : (x : Result Trace) → read_trace tm buf len ≡ x → and_then x (λ t. accepted (whole tm buf len t)) ≡ refused n p → p ≤ 65536
+    by : (x : Meant Trace) → read_trace tm buf len ≡ x → and_then x (λ t. accepted (whole tm buf len t)) ≡ refused n p → p ≤ 65536
     by (accepted t) h f = absurd (clash (cc))
     by (refused k q) h f = let z : q ≡ p = cc in omega (arith, (read_refused tm buf len k q h).place)
 
@@ -75,23 +80,29 @@ pub read_user : (tm : Terms) (buf : List ℕ) (len : ℕ) (r : Reading) → read
 unfolding read
 read_user tm buf len r e = by (read_trace tm buf len) refl e
   where
-    by : (x : Result Trace) → read_trace tm buf len ≡ x → and_then x (λ t. accepted (whole tm buf len t)) ≡ accepted r → r.user_place ≤ 65536
+    by : (x : Meant Trace) → read_trace tm buf len ≡ x → and_then x (λ t. accepted (whole tm buf len t)) ≡ accepted r → r.user_place ≤ 65536
     by (accepted t) h f =
         let q : whole tm buf len t ≡ r = cc in
         let s = sound tm buf len t h in
         omega (arith, ap (λ (y : Reading). y.user_place) q, s.lies.within, s.lies.most)
     by (refused k q) h f = absurd (clash (cc))
 
+-- a decision as the code has it
+pub decided_fits : (f : Result Told Refusal) (x : Meant Decision) → answered decision_of f ≡ x → Fits (decided_number x)
+    → Fits (answered (λ d. decision_number (decision_of d)) f)
+decided_fits (Ok d) x e h = rw (← e) at h
+decided_fits (Err r) x e h = rw (← e) at h
+
 -- what refuses a decision has the place 0
-when_fits : (b : Bool) (x y : Result Decision) → Fits (decided_number x) → Fits (decided_number y) → Fits (decided_number (when b x y))
+when_fits : (b : Bool) (x y : Meant Decision) → Fits (decided_number x) → Fits (decided_number y) → Fits (decided_number (when b x y))
 when_fits true x y f g = f
 when_fits false x y f g = g
 
-then_fits : (tm : Terms) (buf : List ℕ) (len : ℕ) (go : List ℕ → Result Decision) → ((v : List ℕ) → Fits (decided_number (go v)))
+then_fits : (tm : Terms) (buf : List ℕ) (len : ℕ) (go : List ℕ → Meant Decision) → ((v : List ℕ) → Fits (decided_number (go v)))
     → Fits (decided_number (and_then (read tm buf len) (λ r. go r.values)))
 then_fits tm buf len go f = by (read tm buf len) refl
   where
-    by : (x : Result Reading) → read tm buf len ≡ x → Fits (decided_number (and_then x (λ r. go r.values)))
+    by : (x : Meant Reading) → read tm buf len ≡ x → Fits (decided_number (and_then x (λ r. go r.values)))
     by (accepted r) h = f r.values
     by (refused n p) h = omega (arith, read_small tm buf len n p h)
 

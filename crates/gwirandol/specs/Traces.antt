@@ -7,9 +7,13 @@ use Rattle.meaning.specs.Activity.{activity_group, Name, in_message, substitute}
 use Rattle.meaning.specs.Compose.{compose}
 use Rattle.layout.specs.Layouts.{embedding_in}
 use Rattle.layout.specs.declared.embedding.Embedding.{Embedding}
-use Rattle.attributes.specs.Terms.{terms_of}
 use Rattle.codes.specs.Codes.{code}
-use Rattle.compose.specs.Composes.{plain_layout}
+use Rattle.codes.specs.Options.{layout_in}
+use Rattle.compose.specs.Composes.{plain_terms}
+
+-- what options and sheet state about a trace
+abbrev pub terms_in : ℕ → List ℕ → Terms
+terms_in options sheet = record { sheet = sheet; layout = layout_in options }
 
 -- an embedding by its fields Encoding, CodedCharSetId and Flags, and by its Format
 abbrev pub embedding_with : List ℕ → List ℕ → Embedding
@@ -27,8 +31,8 @@ pub record Composes (tm : Terms) (values fields format user before : List ℕ) (
 
 -- COMPOSE A PLAIN MESSAGE: the same, with nothing around the part
 pub record ComposesPlain (sheet values before : List ℕ) (r : ℕ) (after : List ℕ) : Type 0 where
-  pub answer : r ≡ code (compose (terms_of plain_layout sheet) values no_embedding [] before).answer
-  pub buffer : after ≡ (compose (terms_of plain_layout sheet) values no_embedding [] before).buffer
+  pub answer : r ≡ code (compose (plain_terms sheet) values no_embedding [] before).answer
+  pub buffer : after ≡ (compose (plain_terms sheet) values no_embedding [] before).buffer
 
 -- READ: the user data's place, the values and the embedding; a refusal leaves them
 abbrev pub read_code : Result Reading → ℕ

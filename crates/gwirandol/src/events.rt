@@ -13,11 +13,10 @@ fn settings_of(options: u32) -> Settings
     ensures { settings_of result ≡ settings_in options }
 {
     let said = options_of(options);
-    let layout = said.layout;
     Settings {
         recording: said.recording,
         messaging: said.messaging,
-        layout,
+        layout: said.layout,
     }
 }
 
@@ -32,14 +31,12 @@ pub extern "C" fn gw_discontinuity(
 ) -> u64
     ensures { Applies sheet.now (state buffer.old length []) (discontinuity (settings_in options)) done.old result done.new buffer.new [] }
 {
-    let s = *sheet;
-    told(
-        event::discontinuity(buffer, length, s, settings_of(options)),
-        done,
-    )
+    let found = event::discontinuity(buffer, length, *sheet, settings_of(options));
+    told(found, done)
 }
 
 // AN ACTIVITY: the message's length now, or Read's refusals, then 9 to 13. A refusal leaves all three buffers as they were.
+#[tactic(auto, using(crate::proofs::Applied::event_brief))]
 #[unsafe(no_mangle)]
 pub extern "C" fn gw_activity(
     buffer: &mut [u8],
@@ -53,16 +50,13 @@ pub extern "C" fn gw_activity(
 ) -> u64
     ensures { Applies sheet.now (state buffer.old length report.old) (activity_in options level group.now) done.old result done.new buffer.new report.new }
 {
-    let s = *sheet;
-    let said = options_of(options);
-    let rank = level_of(level);
     let found = event::activity(
         buffer,
         length,
-        s,
-        rank,
+        *sheet,
+        level_of(level),
         group,
-        said.asked,
+        options_of(options).asked,
         settings_of(options),
         report,
     );

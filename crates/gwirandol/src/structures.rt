@@ -5,18 +5,20 @@ ghost use Rattle.codes.specs.Codes.{code};
 ghost use Rattle.codes.specs.Options.{layout_in};
 ghost use Rattle.gwirandol.specs.Structures.{Tallies, Lists, Steps};
 
-use codes::{checked, layout_of, listed};
+use codes::{coded, given, layout_of, refused};
 use pcf::{Cursor, Stepped};
 
 // CHECK: the number of structures, or 1, 18, or 2 to 5.
+#[tactic(auto, using(crate::proofs::Reach::check_fits))]
 #[unsafe(no_mangle)]
 pub extern "C" fn gw_check(buffer: &[u8], length: usize, options: u32) -> u64
     ensures { result ≡ code (check (layout_in options) buffer.now length) }
 {
-    checked(pcf::check(buffer, length, layout_of(options)))
+    coded(pcf::check(buffer, length, layout_of(options)))
 }
 
 // TALLY: answers as the check does; one count for each type, all 0 if the message is refused.
+#[tactic(auto, using(crate::proofs::Reach::check_fits))]
 #[unsafe(no_mangle)]
 pub extern "C" fn gw_tally(
     buffer: &[u8],
@@ -26,14 +28,22 @@ pub extern "C" fn gw_tally(
 ) -> u64
     ensures { Tallies (layout_in options) buffer.now length result counts.new }
 {
-    let tallied = pcf::tally(buffer, length, layout_of(options));
-    let told = tallied.counts;
-    *counts = told;
-    let answer = tallied.answer;
-    checked(answer)
+    match pcf::tally(buffer, length, layout_of(options)) {
+        Ok(tallied) => {
+            // an array leaves a struct by a variable: the borrow checker knows no other way
+            let told = tallied.counts;
+            *counts = told;
+            given(tallied.number as usize)
+        }
+        Err(r) => {
+            *counts = [0; 27];
+            refused(r)
+        }
+    }
 }
 
 // LIST: the text's length, or 1, 18, or 2 to 5. A refusal leaves the text as it was.
+#[tactic(auto, using(crate::proofs::Reach::list_fits))]
 #[unsafe(no_mangle)]
 pub extern "C" fn gw_list(
     buffer: &[u8],
@@ -43,7 +53,7 @@ pub extern "C" fn gw_list(
 ) -> u64
     ensures { Lists (layout_in options) buffer.now length text.old result text.new }
 {
-    listed(listing::list(buffer, length, layout_of(options), text))
+    coded(listing::list(buffer, length, layout_of(options), text))
 }
 
 // ONE STRUCTURE at any place and depth: the row and the place behind it, or 1 or 18, then 3 or 4, with the row as it was. The
@@ -59,17 +69,16 @@ pub extern "C" fn gw_step(
 ) -> u64
     ensures { Steps (layout_in options) buffer.now length place depth row.old result row.new }
 {
-    let found = pcf::step(buffer, length, layout_of(options), Cursor { place, depth });
-    match found {
-        Stepped::Refused(r) => refusals::number(r) as u64,
-        Stepped::Structure(s, next) => {
+    match pcf::step(buffer, length, layout_of(options), Cursor { place, depth }) {
+        Err(r) => u64::from(r.number()),
+        Ok(Stepped { row: s, next }) => {
             *row = [
-                s.depth as u64,
+                u64::from(s.depth),
                 s.place as u64,
-                s.kind as u64,
-                s.parameter as u64,
-                s.size as u64,
-                s.members as u64,
+                u64::from(s.kind),
+                u64::from(s.parameter),
+                u64::from(s.size),
+                u64::from(s.members),
                 next as u64,
             ];
             0

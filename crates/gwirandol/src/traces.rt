@@ -3,29 +3,39 @@ ghost use Rattle.std.specs.Prelude.{◌≡◌};
 ghost use Rattle.codes.specs.Codes.{code};
 ghost use Rattle.attributes.specs.Terms.{terms_of};
 ghost use Rattle.codes.specs.Decisions.{decided_number};
-ghost use Rattle.codes.specs.Options.{layout_in, options_in};
-ghost use Rattle.gwirandol.specs.Traces.{embedding_with, Composes, ComposesPlain, Reads, Spans, Names};
+ghost use Rattle.codes.specs.Options.{options_in};
+ghost use Rattle.gwirandol.specs.Traces.{terms_in, embedding_with, Composes, ComposesPlain, Reads, Spans, Names};
 ghost use Rattle.meaning.specs.Activity.{name_of};
 ghost use Rattle.meaning.specs.Decision.{forwarding, arrival};
 
-use activities::Named;
-use codes::{composed, given, judged, layout_of, options_of, refused};
+use attributes::Terms;
+use codes::{coded, given, layout_of, options_of, refused};
 use layout::Embedding;
-use trace::Answer;
+
+// What the caller states about a trace: the layout by its options, and the identifiers.
+fn terms_of(options: u32, sheet: &[u32; 8]) -> Terms
+    ensures { terms_of result ≡ terms_in options sheet.now }
+{
+    Terms {
+        layout: layout_of(options),
+        sheet: *sheet,
+    }
+}
 
 // The embedding with these fields, Encoding, CodedCharSetId and Flags, and with this Format.
-fn embedding_with(fields: [u32; 3], format: [u8; 8]) -> Embedding
-    ensures { result ≡ embedding_with fields format }
+fn embedding_with(fields: &[u32; 3], format: &[u8; 8]) -> Embedding
+    ensures { result ≡ embedding_with fields.now format.now }
 {
     Embedding {
         encoding: fields[0],
         ccsid: fields[1],
-        format,
+        format: *format,
         flags: fields[2],
     }
 }
 
 // COMPOSE: the length written, or 17, 8 or 12 and the buffer stays. Fields, format and user data are an embedded message's.
+#[tactic(auto, using(crate::proofs::Reach::compose_fits))]
 #[unsafe(no_mangle)]
 pub extern "C" fn gw_compose(
     sheet: &[u32; 8],
@@ -36,25 +46,23 @@ pub extern "C" fn gw_compose(
     user: &[u8],
     buffer: &mut [u8],
 ) -> u64
-    ensures { Composes (terms_of (layout_in options) sheet.now) values.now fields.now format.now user.now buffer.old result buffer.new }
+    ensures { Composes (terms_in options sheet.now) values.now fields.now format.now user.now buffer.old result buffer.new }
 {
-    let s = *sheet;
-    let v = *values;
-    let e = embedding_with(*fields, *format);
-    composed(compose::compose(layout_of(options), s, v, e, user, buffer))
+    let embedding = embedding_with(fields, format);
+    coded(compose::compose(terms_of(options, sheet), *values, embedding, user, buffer))
 }
 
 // COMPOSE A PLAIN MESSAGE: as gw_compose does without options, and with nothing to hand over for an embedded one.
+#[tactic(auto, using(crate::proofs::Reach::compose_fits))]
 #[unsafe(no_mangle)]
 pub extern "C" fn gw_compose_plain(sheet: &[u32; 8], values: &[u32; 8], buffer: &mut [u8]) -> u64
     ensures { ComposesPlain sheet.now values.now buffer.old result buffer.new }
 {
-    let s = *sheet;
-    let v = *values;
-    composed(compose::compose_plain(s, v, buffer))
+    coded(compose::compose_plain(*sheet, *values, buffer))
 }
 
 // READ: the user data's place, the eight values, and the embedding; or 17, then 1, 18 and 2 to 8, and all of them stay.
+#[tactic(auto, using(crate::proofs::Reach::read_small, crate::proofs::Reach::read_user))]
 #[unsafe(no_mangle)]
 pub extern "C" fn gw_read(
     buffer: &[u8],
@@ -65,19 +73,17 @@ pub extern "C" fn gw_read(
     fields: &mut [u32; 3],
     format: &mut [u8; 8],
 ) -> u64
-    ensures { Reads (terms_of (layout_in options) sheet.now) buffer.now length values.old fields.old format.old result values.new fields.new format.new }
+    ensures { Reads (terms_in options sheet.now) buffer.now length values.old fields.old format.old result values.new fields.new format.new }
 {
-    let s = *sheet;
-    let found = routing::read(buffer, length, layout_of(options), s);
-    let answer = found.answer;
-    match answer {
-        Answer::Refused(r) => refused(r),
-        Answer::Found => {
+    match routing::read(buffer, length, terms_of(options, sheet)) {
+        Err(r) => refused(r),
+        Ok(found) => {
+            // an array leaves a struct by a variable: the borrow checker knows no other way
             let told = found.values;
             let e = found.embedding;
+            let named = e.format;
             *values = told;
             *fields = [e.encoding, e.ccsid, e.flags];
-            let named = e.format;
             *format = named;
             given(found.user)
         }
@@ -86,22 +92,22 @@ pub extern "C" fn gw_read(
 
 // FORWARDING, to a manager that the options say to support trace-route messaging or not: 1, or Read's refusals, then 14, 15
 // and 16.
+#[tactic(auto, using(crate::proofs::Reach::decided_fits, crate::proofs::Reach::forward_fits))]
 #[unsafe(no_mangle)]
 pub extern "C" fn gw_forward(buffer: &[u8], length: usize, sheet: &[u32; 8], options: u32) -> u64
-    ensures { result ≡ code (decided_number (forwarding (terms_of (layout_in options) sheet.now) buffer.now length (options_in options).supporting)) }
+    ensures { result ≡ code (decided_number (forwarding (terms_in options sheet.now) buffer.now length (options_in options).supporting)) }
 {
-    let s = *sheet;
-    let said = options_of(options);
-    judged(routing::forward(buffer, length, said.layout, s, said.supporting))
+    let supporting = options_of(options).supporting;
+    coded(routing::forward(buffer, length, terms_of(options, sheet), supporting))
 }
 
 // ARRIVAL: 2 to put, 3 to withhold, or Read's refusals, then 14.
+#[tactic(auto, using(crate::proofs::Reach::decided_fits, crate::proofs::Reach::arrive_fits))]
 #[unsafe(no_mangle)]
 pub extern "C" fn gw_arrive(buffer: &[u8], length: usize, sheet: &[u32; 8], options: u32) -> u64
-    ensures { result ≡ code (decided_number (arrival (terms_of (layout_in options) sheet.now) buffer.now length)) }
+    ensures { result ≡ code (decided_number (arrival (terms_in options sheet.now) buffer.now length)) }
 {
-    let s = *sheet;
-    judged(routing::arrive(buffer, length, layout_of(options), s))
+    coded(routing::arrive(buffer, length, terms_of(options, sheet)))
 }
 
 // THE N-TH ACTIVITY GROUP: its place and length, 0 and 0 if there is none.
@@ -114,10 +120,9 @@ pub extern "C" fn gw_activity_group(
     n: usize,
     part: &mut [u64; 2],
 )
-    ensures { Spans (terms_of (layout_in options) sheet.now) buffer.now length n part.new }
+    ensures { Spans (terms_in options sheet.now) buffer.now length n part.new }
 {
-    let s = *sheet;
-    let span = activities::activity_span(buffer, length, layout_of(options), s, n);
+    let span = activities::activity_span(buffer, length, terms_of(options, sheet), n);
     *part = [span.place as u64, span.length as u64];
 }
 
@@ -132,13 +137,11 @@ pub extern "C" fn gw_named_string(
     identifier: u32,
     part: &mut [u64; 2],
 ) -> bool
-    ensures { Names (name_of (terms_of (layout_in options) sheet.now) buffer.now length n identifier) part.old result part.new }
+    ensures { Names (name_of (terms_in options sheet.now) buffer.now length n identifier) part.old result part.new }
 {
-    let s = *sheet;
-    let found = activities::name_span(buffer, length, layout_of(options), s, n, identifier);
-    match found {
-        Named::Substitute => false,
-        Named::InMessage(span) => {
+    match activities::name_span(buffer, length, terms_of(options, sheet), n, identifier) {
+        None => false,
+        Some(span) => {
             *part = [span.place as u64, span.length as u64];
             true
         }

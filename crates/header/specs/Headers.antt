@@ -5,11 +5,6 @@ use Rattle.meaning.specs.Compose.{trace_header_fields, report_header_fields}
 use Rattle.header.specs.declared.Kind.{Kind}
 use Rattle.header.specs.declared.Kind.TheVariants.{Trace, Report}
 
--- where the fields of a header start in the table
-abbrev pub offset_of : Kind → ℕ
-offset_of Trace = 0
-offset_of Report = 9
-
 abbrev pub fields_of : Kind → List ℕ
 fields_of Trace = trace_header_fields
 fields_of Report = report_header_fields

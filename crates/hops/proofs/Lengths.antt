@@ -20,7 +20,7 @@ use Rattle.meaning.proofs.Decimals.{decimal_most, column_ten, length-column}
 use Rattle.trace.proofs.Marking.{Every, every_named, every_direct}
 use Rattle.activities.proofs.Namings.{every_string}
 use Rattle.hops.specs.Hops.{no_name, hop_line}
-use Rattle.hops.proofs.Names.{length-shown}
+use Rattle.hops.proofs.Names.{shown_length}
 
 -- THE DATA of a string are shorter than the string
 abbrev Fits : Part → Row → Type 0
@@ -69,4 +69,4 @@ pub line_most : (number place size : ℕ) (name : List ℕ) → place < 100000 �
 unfolding hop_line
 line_most number place size name p s =
     simp length-append
-    (omega (arith, column_ten number blank, length-column place blank, length-column size blank, decimal_most 4 place p, decimal_most 4 size s, length-shown name))
+    (omega (arith, column_ten number blank, length-column place blank, length-column size blank, decimal_most 4 place p, decimal_most 4 size s, shown_length name))

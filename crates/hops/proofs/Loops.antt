@@ -5,6 +5,7 @@ use Prim.Native.Nat.{ℕ, ◌+◌, ◌≤◌, ◌<◌}
 use native.Mathlib.Numerals.{add-one}
 use native.Mathlib.Omega.{arith}
 use lib.ListN.{length, length-append}
+use Rattle.std.specs.Prelude.{Some, None}
 use Rattle.meaning.specs.Bytes.{number}
 use Rattle.meaning.specs.Message.{parameter_count}
 use Rattle.meaning.specs.Trace.{Terms}
@@ -17,9 +18,7 @@ use Rattle.text.proofs.Laws.{then}
 use Rattle.layout.specs.declared.part.Part.{Part as PartIn}
 use Rattle.reader.specs.Reading.{nth_top}
 use Rattle.hops.specs.Hops.{hop_of, hop_lines}
-use Rattle.hops.specs.Groups.{spot_in, LineReady, Added, LinesDue, groups_of, LinesDone}
-use Rattle.hops.specs.declared.groups.Spot.{Spot}
-use Rattle.hops.specs.declared.groups.Spot.TheVariants.{Activity, Other}
+use Rattle.hops.specs.Groups.{spot_in, Reached, LinesDue, groups_of, LinesDone}
 use Rattle.hops.specs.declared.groups.Groups.{Groups}
 use Rattle.text.proofs.Printed.{wrote_as, wrote_length}
 use Rattle.hops.proofs.Turns.{trace_in, Upto, Here, at_start, text_most, at_end, is_other, is_activity}
@@ -72,42 +71,36 @@ module _ (tm : Terms) (msg : List ℕ) (id : ℕ) (before : List ℕ) where
       still : 0 < w.upto.due
       still = omega (arith, w.upto.total)
 
-      at_activity : (place : ℕ) → Activity place ≡ spot_in (nth_top tm.layout msg k) → Here tm msg k g.count g.text place
-      at_activity place e = is_activity tm msg k g.count g.text w.upto still place e
+      -- it is an Activity group, and its line has room
+      module _ (place : ℕ) (e : Some place ≡ spot_in (nth_top tm.layout msg k)) where
+        here : Here tm msg k g.count g.text place
+        here = is_activity tm msg k g.count g.text w.upto still place e
 
-      pub ready : LineReady tm msg id g after (spot_in (nth_top tm.layout msg k))
-      ready place e =
-          let h = at_activity place (sym e) in
-          record {
-            placed = h.placed;
-            near = h.near;
-            within = h.within;
-            short = h.short;
-            few = h.few;
-            room = record { fits = omega (arith, h.room id, same_room, w.room) };
-          }
+        pub ready : Reached tm msg id g.count place after g.text
+        ready = record {
+          placed = here.placed;
+          near = here.near;
+          within = here.within;
+          short = here.short;
+          few = here.few;
+          room = record { fits = omega (arith, here.room id, same_room, w.room) };
+        }
 
-      pub again : (last : List ℕ) (r : Groups) → Added tm msg id g after last r (spot_in (nth_top tm.layout msg k)) → Written tm msg id before last r (k + 1)
-      again last r x = go (spot_in (nth_top tm.layout msg k)) refl x
-        where
-          go : (spot : Spot) → spot_in (nth_top tm.layout msg k) ≡ spot → Added tm msg id g after last r spot → Written tm msg id before last r (k + 1)
-          go (Activity place) e a =
-              let h = at_activity place (sym e) in
-              let l = length-append (hop_lines tm msg id g.count) (hop_of tm msg id g.count) in
-              let f : Room before 0 (hop_lines tm msg id g.count ++ hop_of tm msg id g.count) = record { fits = omega (arith, h.room id, w.wrote.place, w.room) } in
-              let both = wrote_as (lines_more tm msg id g.count) (then w.wrote (λ _. a.1) f) in
-              record {
-                upto = rw (a.0, a.1.place) (h.next id);
-                wrote = rw a.0 both;
-                room = w.room;
-              }
-          go Other e a =
-              let u = is_other tm msg k g.count g.text w.upto still (sym e) in
-              record {
-                upto = rw a.0 u;
-                wrote = rw (a.0, a.1) w.wrote;
-                room = w.room;
-              }
+        -- with its line, which ends before `next`
+        pub counted : (last : List ℕ) (next : ℕ) → Wrote after g.text (hop_of tm msg id g.count) last next
+            → Written tm msg id before last (record { count = g.count + 1; text = next }) (k + 1)
+        counted last next a =
+            let l = length-append (hop_lines tm msg id g.count) (hop_of tm msg id g.count) in
+            let f : Room before 0 (hop_lines tm msg id g.count ++ hop_of tm msg id g.count) = record { fits = omega (arith, here.room id, w.wrote.place, w.room) } in
+            record {
+              upto = rw a.place (here.next id);
+              wrote = wrote_as (lines_more tm msg id g.count) (then w.wrote (λ _. a) f);
+              room = w.room;
+            }
+
+      -- it is anything else
+      pub passed_by : None ≡ spot_in (nth_top tm.layout msg k) → Written tm msg id before after g (k + 1)
+      passed_by e = record { upto = is_other tm msg k g.count g.text w.upto still e; wrote = w.wrote; room = w.room }
 
     -- none is due any more
     pub finished : parameter_count (trace_in tm msg) ≤ k → LinesDone tm msg id before after g

@@ -1,38 +1,21 @@
 -- A name as text: the bytes that are written for it.
 use mathlib.Core.Path.{◌≡◌, refl, sym, ap, ◌∙◌}
 use mathlib.Core.List.{List, [], ◌∷◌, ◌++◌}
-use Prim.Native.Nat.{ℕ, suc, ◌+◌, ◌≤◌, ◌<◌}
+use Prim.Native.Nat.{ℕ, suc, ◌+◌, ◌<◌}
 use native.Mathlib.Numerals.{add-one}
 use native.Mathlib.Omega.{arith}
 use lib.ListN.{length, get_or, set, take, length-append}
 use lib.Seq.{take-suc}
-use lib.Dec.{leb}
-use borrow.Author.Tests.{le-leb, lt-leb}
-use Rattle.meaning.proofs.Tests.{and_false}
 use Rattle.meaning.proofs.Splices.{splice-none}
 use Rattle.text.specs.Wrote.{Room, Wrote}
 use Rattle.text.proofs.Laws.{push}
 use Rattle.hops.specs.Hops.{shown_byte, shown}
 
--- ONE BYTE, by the code's tests
-module _ (x : ℕ) where
-  pub shown_itself : 0x20 ≤ x → x ≤ 0x7E → x ≡ shown_byte x
-  unfolding shown_byte
-  shown_itself h k = rw (le-leb 0x20 x h, le-leb x 0x7E k) refl
-
-  pub shown_low : x < 0x20 → 0x2E ≡ shown_byte x
-  unfolding shown_byte
-  shown_low h = rw (lt-leb 0x20 x h) refl
-
-  pub shown_high : 0x7E < x → 0x2E ≡ shown_byte x
-  unfolding shown_byte
-  shown_high h = rw (lt-leb x 0x7E h, and_false (leb 0x20 x)) refl
-
 -- ALL BYTES
-pub length-shown : (xs : List ℕ) → length (shown xs) ≡ length xs
+pub shown_length : (xs : List ℕ) → length (shown xs) ≡ length xs
 unfolding shown
-length-shown [] = refl
-length-shown (x ∷ xs) = ap suc (length-shown xs)
+shown_length [] = refl
+shown_length (x ∷ xs) = ap suc (shown_length xs)
 
 shown_append : (xs ys : List ℕ) → shown (xs ++ ys) ≡ shown xs ++ shown ys
 unfolding shown

@@ -27,7 +27,7 @@ use Rattle.meaning.proofs.Sound.{Sound, sound}
 use Rattle.reader.specs.Reading.{nth_top}
 use Rattle.hops.specs.Hops.{no_name, hop_of}
 use Rattle.hops.specs.Groups.{spot_in}
-use Rattle.hops.specs.declared.groups.Spot.TheVariants.{Activity, Other}
+use Rattle.std.specs.Prelude.{Some, None}
 use Rattle.hops.proofs.Lengths.{name_short, line_most}
 
 -- the first structure of those that are left, and the others
@@ -160,7 +160,7 @@ module _ (tm : Terms) (msg : List ℕ) where
           ap activities its.split
           ∙ ap (groups_in MQGACF_ACTIVITY) (tops_next its.row its.inside its.rest (sym (row_at_lem m u.place 1 its.row its.there).at_depth) deep (until_walk its.others))
 
-      spot : spot_in (nth_top tm.layout msg k) ≡ when (is_group MQGACF_ACTIVITY top) (Activity its.row.place) Other
+      spot : spot_in (nth_top tm.layout msg k) ≡ when (is_group MQGACF_ACTIVITY top) (Some its.row.place) None
       spot = ap spot_in found
 
       -- what is not an Activity group has no line
@@ -184,12 +184,12 @@ module _ (tm : Terms) (msg : List ℕ) where
             few = omega (arith, u.few);
           }
 
-      pub is_other : Other ≡ spot_in (nth_top tm.layout msg k) → Upto tm msg (k + 1) n at
+      pub is_other : None ≡ spot_in (nth_top tm.layout msg k) → Upto tm msg (k + 1) n at
       is_other e = go (is_group MQGACF_ACTIVITY top) refl
         where
           go : (b : Bool) → is_group MQGACF_ACTIVITY top ≡ b → Upto tm msg (k + 1) n at
           go false h = other_next h
-          go true h = let z : Other ≡ Activity its.row.place = e ∙ spot ∙ rw h refl in absurd (clash (cc))
+          go true h = let z : None ≡ Some its.row.place = e ∙ spot ∙ rw h refl in absurd (clash (cc))
 
       -- AN ACTIVITY GROUP is the n-th one of the trace
       module _ (yes : is_group MQGACF_ACTIVITY top ≡ true) where
@@ -256,12 +256,12 @@ module _ (tm : Terms) (msg : List ℕ) where
           next = λ id. line_next id;
         }
 
-      pub is_activity : (q : ℕ) → Activity q ≡ spot_in (nth_top tm.layout msg k) → Here tm msg k n at q
+      pub is_activity : (q : ℕ) → Some q ≡ spot_in (nth_top tm.layout msg k) → Here tm msg k n at q
       is_activity q e = go (is_group MQGACF_ACTIVITY top) refl
         where
           go : (b : Bool) → is_group MQGACF_ACTIVITY top ≡ b → Here tm msg k n at q
-          go false h = let z : Activity q ≡ Other = e ∙ spot ∙ rw h refl in absurd (clash (cc))
+          go false h = let z : Some q ≡ None = e ∙ spot ∙ rw h refl in absurd (clash (cc))
           go true h =
-              let z : Activity q ≡ Activity its.row.place = e ∙ spot ∙ rw h refl in
+              let z : Some q ≡ Some its.row.place = e ∙ spot ∙ rw h refl in
               let y : its.row.place ≡ q = cc in
               subst (Here tm msg k n at) y (here_now h)

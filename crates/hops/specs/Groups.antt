@@ -1,5 +1,5 @@
 -- What the code knows while it goes over the top-level structures of a trace.
-use Rattle.std.specs.Prelude.{ℕ, ◌+◌, ◌≤◌, ◌≡◌, ◌&&◌, List, length, eqb}
+use Rattle.std.specs.Prelude.{ℕ, ◌+◌, ◌≤◌, ◌≡◌, ◌&&◌, List, length, eqb, Option, Some, None}
 use Rattle.meaning.specs.Names.{MQCFT_GROUP, MQGACF_ACTIVITY}
 use Rattle.meaning.specs.Answer.{Result, accepted, refused, when}
 use Rattle.meaning.specs.Layout.{part_in}
@@ -10,15 +10,13 @@ use Rattle.text.specs.Wrote.{Room, Wrote}
 use Rattle.trace.specs.Locations.{lying}
 use Rattle.layout.specs.declared.part.Part.{Part as PartIn}
 use Rattle.hops.specs.Hops.{hop_of, hop_lines}
-use Rattle.hops.specs.declared.groups.Spot.{Spot}
-use Rattle.hops.specs.declared.groups.Spot.TheVariants.{Activity, Other}
 use Rattle.hops.specs.declared.groups.Groups.{Groups}
 
--- a structure that the reader has found: an Activity group at a place, or something else
-abbrev pub spot_in : Result Stepped → Spot
+-- the place of a structure that the reader has found, if that is an Activity group
+abbrev pub spot_in : Result Stepped → Option ℕ
 spot_in (accepted s) =
-    when (eqb s.row.kind MQCFT_GROUP && eqb s.row.parameter MQGACF_ACTIVITY) (Activity s.row.place) Other
-spot_in (refused k p) = Other
+    when (eqb s.row.kind MQCFT_GROUP && eqb s.row.parameter MQGACF_ACTIVITY) (Some s.row.place) None
+spot_in (refused k p) = None
 
 -- the n-th Activity group is at `place`, and its line has room from `at` on
 pub record Reached (tm : Terms) (msg : List ℕ) (id n place : ℕ) (out : List ℕ) (at : ℕ) : Type 0 where
@@ -28,15 +26,6 @@ pub record Reached (tm : Terms) (msg : List ℕ) (id n place : ℕ) (out : List 
   pub short : (activity_group tm msg (length msg) n).length ≤ 65536
   pub few : n ≤ 65536
   pub room : Room out at (hop_of tm msg id n)
-
--- the next structure at the top level, behind the groups g: where it is an Activity group, its line has room
-abbrev pub LineReady : Terms → List ℕ → ℕ → Groups → List ℕ → Spot → Type 0
-LineReady tm msg id g out spot = (place : ℕ) → spot ≡ Activity place → Reached tm msg id g.count place out g.text
-
--- with it: an Activity group counts and has a line behind the others, anything else changes nothing
-abbrev pub Added : Terms → List ℕ → ℕ → Groups → List ℕ → List ℕ → Groups → Spot → Type 0
-Added tm msg id g before after r (Activity place) = (r.count ≡ g.count + 1) × Wrote before g.text (hop_of tm msg id g.count) after r.text
-Added tm msg id g before after r Other = (r ≡ g) × (after ≡ before)
 
 -- a sound trace, which is this part of its message, whose lines are due
 pub record LinesDue (tm : Terms) (msg : List ℕ) (part : PartIn) (out : List ℕ) : Type 0 where

@@ -6,6 +6,7 @@ use crate::name::put_name;
 use text::put_column;
 
 // Number, place, length, name. The name is last, because it may have blanks in it.
+#[tactic(auto, using(text::proofs::Laws::front, text::proofs::Laws::behind), unfolding(crate::specs::Hops::hop_line))]
 pub fn put_hop(
     out: &mut [u8],
     at: usize,

@@ -5,6 +5,7 @@ ghost use Rattle.text.specs.Wrote.{Room, Wrote};
 ghost use Rattle.hops.specs.Hops.{shown_byte, shown};
 
 // What is written for a byte.
+#[tactic(auto, unfolding(crate::specs::Hops::shown_byte))]
 fn shown_byte(x: u8) -> u8
     ensures { result ≡ shown_byte x }
 {
@@ -15,14 +16,13 @@ fn shown_byte(x: u8) -> u8
 }
 
 // A name, byte for byte.
+#[tactic(auto, using(crate::proofs::Names::shown_length, crate::proofs::Names::none_yet))]
 pub fn put_name(out: &mut [u8], at: usize, name: &[u8]) -> usize
     requires { Room out.old at (shown name.now) }
     ensures { Wrote out.old at (shown name.now) out.new result }
 {
-    let mut i = 0;
-    while i < name.len() {
-        out[at + i] = shown_byte(name[i]);
-        i += 1;
+    for (i, &x) in name.iter().enumerate() {
+        out[at + i] = shown_byte(x);
     }
-    at + i
+    at + name.len()
 }

@@ -4,36 +4,25 @@ use mathlib.Core.List.{List, ◌++◌, append_assoc, append-nil}
 use Prim.Native.Nat.{ℕ, ◌+◌, ◌≤◌}
 use native.Mathlib.Nat.{zero-add}
 use native.Mathlib.Omega.{arith}
-use lib.ListN.{length, take, drop, replicate, length-append, length-drop}
-use lib.Seq.{length-take-le, get_or-take, get_or-drop, ext_get_or, take_all}
-use Rattle.meaning.specs.Bytes.{part_of, number, bytes4, words, splice, store}
-use Rattle.meaning.specs.Layout.{plain, embedded, identifier, Embedding, embedding_of, embedded_header, laid_out, lengthened}
+use lib.ListN.{length, take, drop, length-append, length-drop}
+use lib.Seq.{length-take-le, get_or-take, get_or-drop, ext_get_or}
+use Rattle.meaning.specs.Bytes.{part_of, bytes4, words, splice}
+use Rattle.meaning.specs.Layout.{plain, embedded, identifier, Embedding, embedding_of, embedded_header, laid_out}
 use Rattle.meaning.proofs.Numbers.{length-bytes4}
-use Rattle.meaning.proofs.Splices.{length_splice, take_written, splice_next, splice_front}
-use Rattle.meaning.proofs.Parts.{num_part}
+use Rattle.meaning.proofs.Splices.{length_splice, splice_next, splice_front}
 use Rattle.meaning.proofs.Layouts.{length_header}
 use Rattle.layout.specs.Layouts.{Around}
 
 -- THE EMBEDDING, read from the first bytes of a message
-pub format_read : (buf : List ℕ) → 32 ≤ length buf → splice (replicate 8 0) 0 (take 8 (drop 20 buf)) ≡ (embedding_of embedded (part_of buf 32)).format
+pub format_read : (buf : List ℕ) → 32 ≤ length buf → take 8 (drop 20 buf) ≡ (embedding_of embedded (part_of buf 32)).format
 unfolding embedding_of
 format_read buf h =
-    let x : List ℕ = take 8 (drop 20 buf) in
     let n : length (take 8 (drop 20 buf)) ≡ 8 = length-take-le 8 (drop 20 buf) (omega (arith, length-drop 20 buf)) in
     let m : length (take 8 (drop 20 (take 32 buf))) ≡ 8 =
     length-take-le 8 (drop 20 (take 32 buf)) (omega (arith, length-drop 20 (take 32 buf), length-take-le 32 buf h)) in
-    let k : length (splice (replicate 8 0) 0 (take 8 (drop 20 buf))) ≤ 8 = omega (arith, length_splice (replicate 8 0) 0 (take 8 (drop 20 buf)) (omega (arith, n))) in
-    sym (take_all 8 (splice (replicate 8 0) 0 (take 8 (drop 20 buf))) k) ∙ take_written (replicate 8 0) (take 8 (drop 20 buf)) 8 n (omega arith)
-    ∙ ext_get_or 0 (take 8 (drop 20 buf)) (take 8 (drop 20 (take 32 buf))) (n ∙ sym m) (λ i j.
+    ext_get_or 0 (take 8 (drop 20 buf)) (take 8 (drop 20 (take 32 buf))) (n ∙ sym m) (λ i j.
     get_or-take 8 (drop 20 buf) i 0 (omega arith) ∙ get_or-drop 20 buf i 0 ∙ sym (get_or-take 32 buf (20 + i) 0 (omega arith))
     ∙ sym (get_or-drop 20 (take 32 buf) i 0) ∙ sym (get_or-take 8 (drop 20 (take 32 buf)) i 0 (omega arith)))
-
-pub embedding_read_lem : (buf : List ℕ) (encoding ccsid flags : ℕ) (format : List ℕ) → encoding ≡ number buf 12 → ccsid ≡ number buf 16
-    → format ≡ (embedding_of embedded (part_of buf 32)).format → flags ≡ number buf 28
-    → record { encoding = encoding; coded_char_set_id = ccsid; format = format; flags = flags } ≡ embedding_of embedded (part_of buf 32)
-unfolding embedding_of
-embedding_read_lem buf encoding ccsid flags format a b c d =
-    rw (a, b, c, d, num_part buf 32 12 (omega arith), num_part buf 32 16 (omega arith), num_part buf 32 28 (omega arith)) refl
 
 -- THE EMBEDDED HEADER, written field by field
 behind : (d s xs : List ℕ) (n : ℕ) (ys : List ℕ) → s ≡ splice d 0 xs → n ≡ length xs → n + length ys ≤ length d → splice s n ys ≡ splice d 0 (xs ++ ys)
@@ -89,12 +78,3 @@ module _ (e : Embedding) (size : ℕ) (user buf : List ℕ) (eight : length e.fo
         ∙ splice_next buf 0 header 32 (p ++ user) (omega (arith, length_header e (32 + size) eight)) (omega (arith, length-append p user))
         ∙ ap (λ (n : ℕ). splice buf 0 (embedded_header e (32 + n) ++ (p ++ user))) (sym h);
   }
-
--- A PART THAT GROWS
-pub longer_plain : (b : List ℕ) (end by : ℕ) → b ≡ lengthened plain (part_of b end) by b
-unfolding lengthened
-longer_plain b end by = refl
-
-pub longer_embedded : (b : List ℕ) (end by : ℕ) → splice b 8 (bytes4 (end + by)) ≡ lengthened embedded (part_of b end) by b
-unfolding lengthened store
-longer_embedded b end by = refl

@@ -4,16 +4,17 @@ use mathlib.Core.Bool.{true, false, ◌&&◌}
 use mathlib.Core.List.{List}
 use Prim.Native.Nat.{ℕ, ◌+◌, ◌≤◌}
 use native.Mathlib.Omega.{arith}
-use lib.ListN.{length}
+use lib.ListN.{length, take}
 use lib.Dec.{leb}
 use borrow.Author.Tests.{leb-true}
-use Rattle.meaning.specs.Bytes.{part_of, number, num}
+use Rattle.meaning.specs.Bytes.{whole, part_of, number, num}
 use Rattle.meaning.specs.Names.{most_bytes, bad_length, bad_embedded_header}
 use Rattle.meaning.specs.Answer.{accepted, refused}
 use Rattle.meaning.specs.Layout.{embedded, start_of, embedded_ok, length_ok, located}
 use Rattle.meaning.proofs.Tests.{and_true}
 use Rattle.meaning.proofs.Parts.{num_part}
 use Rattle.meaning.proofs.Layouts.{plain_ok}
+use Rattle.wire.proofs.Parts.{whole-take}
 use Rattle.layout.specs.Layouts.{form_of, layout_of, part_at}
 use Rattle.layout.specs.declared.part.Form.{Form}
 use Rattle.layout.specs.declared.part.Form.TheVariants.{Plain, Embedded}
@@ -43,13 +44,17 @@ module _ (l : Layout) (buf : List ℕ) (len start : ℕ) (starts : start ≡ sta
           let b = and_true (leb len most_bytes) _ a.1 in
           (omega (arith, leb-true (start + 36) len b.1), leb-true len (length buf) a.0)
 
-      pub unsound : embedded_ok embedded (part_of buf len) ≡ false → refused bad_embedded_header 0 ≡ located (layout_of l) buf len
-      unfolding located
-      unsound h = rw (length_test, ok, e, h) refl
+      -- the whole message is what is tested
+      lent : whole (take len buf) ≡ part_of buf len
+      lent = whole-take buf len headers.1
 
-      pub found_embedded : embedded_ok embedded (part_of buf len) ≡ true → (end : ℕ) → end ≡ number buf 8
+      pub unsound : embedded_ok embedded (whole (take len buf)) ≡ false → refused bad_embedded_header 0 ≡ located (layout_of l) buf len
+      unfolding located
+      unsound h = rw (length_test, ok, e, rw lent at h) refl
+
+      pub found_embedded : embedded_ok embedded (whole (take len buf)) ≡ true → (end : ℕ) → end ≡ number buf 8
           → accepted (part_at buf (record { start = start; end = end })) ≡ located (layout_of l) buf len
       unfolding located
       found_embedded h end n =
           let m : num (part_of buf len) 8 ≡ end = num_part buf len 8 (omega (arith, headers.0)) ∙ sym n in
-          rw (length_test, ok, starts, e, h, m) refl
+          rw (length_test, ok, starts, e, rw lent at h, m) refl

@@ -4,16 +4,11 @@ use Rattle.meaning.specs.Bytes.{Part as Meant, splice}
 use Rattle.meaning.specs.Names.{no_room}
 use Rattle.meaning.specs.Answer.{Result, accepted, refused, unless}
 use Rattle.meaning.specs.Layout.{Form as MeantForm, plain, embedded, Layout as MeantLayout, start_of, room_for, Embedding as MeantEmbedding, laid_out}
-use Rattle.refusals.specs.Refusals.{refusal}
 use Rattle.layout.specs.declared.part.Form.{Form}
 use Rattle.layout.specs.declared.part.Form.TheVariants.{Plain, Embedded}
 use Rattle.layout.specs.declared.part.Layout.{Layout}
 use Rattle.layout.specs.declared.part.Part.{Part}
-use Rattle.layout.specs.declared.part.Located.{Located}
-use Rattle.layout.specs.declared.part.Located.TheVariants as located
 use Rattle.layout.specs.declared.embedding.Embedding.{Embedding}
-use Rattle.layout.specs.declared.embedding.Laid.{Laid}
-use Rattle.layout.specs.declared.embedding.Laid.TheVariants as laid
 
 abbrev pub form_of : Form → MeantForm
 form_of Plain = plain
@@ -26,20 +21,12 @@ layout_of l = record { form = form_of l.form }
 abbrev pub part_at : List ℕ → Part → Meant
 part_at buf p = record { bytes = take p.end buf; start = p.start; end = p.end }
 
-abbrev pub located_of : List ℕ → Located → Result Meant
-located_of buf (located.At p) = accepted (part_at buf p)
-located_of buf (located.Refused r) = refusal r
-
 abbrev pub embedding_in : Embedding → MeantEmbedding
 embedding_in e = record { encoding = e.encoding; coded_char_set_id = e.ccsid; format = e.format; flags = e.flags }
 
 -- a length that is not above 65,536 or the room, or 12
 abbrev pub fitting : ℕ → ℕ → Result ℕ
 fitting n room = unless (room_for n room) (refused no_room 0) (accepted n)
-
-abbrev pub laid_of : Laid → Result ℕ
-laid_of (laid.Length n) = accepted n
-laid_of (laid.Refused r) = refusal r
 
 -- with any part of `size` bytes written at `start`, the buffer has at its start the message laid out
 pub record Around (f : MeantForm) (e : MeantEmbedding) (size : ℕ) (user before after : List ℕ) (start : ℕ) : Type 0 where

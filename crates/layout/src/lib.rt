@@ -5,7 +5,5 @@
 mod embedding;
 mod part;
 
-pub use embedding::{
-    Embedding, Laid, embedding_of, laid_out_length, lengthen, no_embedding, put_around,
-};
-pub use part::{Form, HEADER, Layout, Located, MOST_BYTES, Part, first_place, locate};
+pub use embedding::{Embedding, embedding_of, laid_out_length, lengthen, no_embedding, put_around};
+pub use part::{Form, HEADER, Layout, MOST_BYTES, Part, first_place, locate};

@@ -1,9 +1,10 @@
 // Where the PCF part of a message lies.
 ghost use Rattle.std.specs.Prelude.{◌≡◌, ◌&&◌, ◌+◌, ◌≤◌, leb, length};
-ghost use Rattle.meaning.specs.Bytes.{part_of};
+ghost use Rattle.meaning.specs.Bytes.{whole};
 ghost use Rattle.meaning.specs.Names.{most_bytes};
 ghost use Rattle.meaning.specs.Layout.{embedded, is_identified, start_of, embedded_ok, located};
-ghost use Rattle.layout.specs.Layouts.{form_of, layout_of, located_of};
+ghost use Rattle.refusals.specs.Refusals.{answered};
+ghost use Rattle.layout.specs.Layouts.{form_of, layout_of, part_at};
 
 use refusals::Refusal;
 use wire::number_at;
@@ -20,30 +21,23 @@ pub const EMBEDDED_HEADER: usize = 32;
 // The place of StrucLength in it: it says where the part ends, counted from the message's first byte.
 pub const STRUC_LENGTH: usize = 8;
 
-#[derive(Clone, Copy)]
+#[derive(Clone, Copy, Debug, PartialEq, Eq)]
 pub enum Form {
     Plain,
     Embedded,
 }
 
 // What the caller says of a message. It is never guessed.
-#[derive(Clone, Copy)]
+#[derive(Clone, Copy, Debug, PartialEq, Eq)]
 pub struct Layout {
     pub form: Form,
 }
 
 // A part of a message: the place of its first byte, and the place behind its last one.
-#[derive(Clone, Copy)]
+#[derive(Clone, Copy, Debug, PartialEq, Eq)]
 pub struct Part {
     pub start: usize,
     pub end: usize,
-}
-
-// The PCF part of a message, or 1 or 18.
-#[derive(Clone, Copy)]
-pub enum Located {
-    At(Part),
-    Refused(Refusal),
 }
 
 // How many bytes stand in front of the part.
@@ -60,15 +54,14 @@ fn start_of(form: Form) -> usize
 pub fn first_place(layout: Layout) -> usize
     ensures { result ≡ start_of (form_of layout.form) + 36 }
 {
-    let form = layout.form;
-    start_of(form) + HEADER
+    start_of(layout.form) + HEADER
 }
 
 // A message is no longer than its buffer and 65,536 bytes, and has so many bytes at least.
 fn length_ok(msg: &[u8], len: usize, least: usize) -> bool
     ensures { result ≡ (leb len (length msg.now) && (leb len most_bytes && leb least len)) }
 {
-    len <= msg.len() && (len <= MOST_BYTES && least <= len)
+    len <= msg.len() && len <= MOST_BYTES && least <= len
 }
 
 // The first four bytes are "EPH ".
@@ -76,37 +69,41 @@ fn is_identified(msg: &[u8]) -> bool
     requires { 4 ≤ length msg.now }
     ensures { result ≡ is_identified msg.now }
 {
-    (msg[0] == 0x45) & ((msg[1] == 0x50) & ((msg[2] == 0x48) & (msg[3] == 0x20)))
+    msg.starts_with(b"EPH ")
 }
 
-// The embedded header is sound: identifier, Version 1, and a StrucLength that leaves room for a PCF header, is not above the
-// message and is a multiple of 4.
-fn embedded_ok(msg: &[u8], len: usize) -> bool
-    requires { (68 ≤ len) × (len ≤ length msg.now) }
-    ensures { result ≡ embedded_ok embedded (part_of msg.now len) }
+// The embedded header of a whole message is sound: identifier, Version 1, and a StrucLength that leaves room for a PCF header,
+// is not above the message and is a multiple of 4.
+#[tactic(auto, unfolding(meaning::specs::Layout::embedded_ok))]
+fn embedded_ok(msg: &[u8]) -> bool
+    requires { 68 ≤ length msg.now }
+    ensures { result ≡ embedded_ok embedded (whole msg.now) }
 {
     let end = number_at(msg, STRUC_LENGTH) as usize;
     is_identified(msg)
-        && (number_at(msg, 4) == 1
-            && (EMBEDDED_HEADER + HEADER <= end && (end <= len && end % 4 == 0)))
+        && number_at(msg, 4) == 1
+        && EMBEDDED_HEADER + HEADER <= end
+        && end <= msg.len()
+        && end % 4 == 0
 }
 
-// THE PART of the message in the first `len` bytes: 1, then 18.
-pub fn locate(msg: &[u8], len: usize, layout: Layout) -> Located
-    ensures { located_of msg.now result ≡ located (layout_of layout) msg.now len }
+// THE PART of the message in the first `len` bytes, or 1, then 18. Here and in all that asks for a message's part, buffer and
+// length are two parameters: C hands both, and a length above the buffer is no slice but a refusal, 1.
+#[tactic(auto, using(crate::proofs::Locations::short, crate::proofs::Locations::found_plain, crate::proofs::Locations::unsound, crate::proofs::Locations::found_embedded))]
+pub fn locate(msg: &[u8], len: usize, layout: Layout) -> Result<Part, Refusal>
+    ensures { answered (part_at msg.now) result ≡ located (layout_of layout) msg.now len }
 {
-    let form = layout.form;
-    let start = start_of(form);
+    let start = start_of(layout.form);
     if !length_ok(msg, len, start + HEADER) {
-        return Located::Refused(Refusal::BadLength);
+        return Err(Refusal::BadLength);
     }
-    match form {
-        Form::Plain => Located::At(Part { start, end: len }),
+    match layout.form {
+        Form::Plain => Ok(Part { start, end: len }),
         Form::Embedded => {
-            if !embedded_ok(msg, len) {
-                return Located::Refused(Refusal::BadEmbeddedHeader);
+            if !embedded_ok(&msg[..len]) {
+                return Err(Refusal::BadEmbeddedHeader);
             }
-            Located::At(Part {
+            Ok(Part {
                 start,
                 end: number_at(msg, STRUC_LENGTH) as usize,
             })

@@ -13,55 +13,44 @@ ghost use Rattle.text.specs.Wrote.{Wrote};
 ghost use Rattle.listing.specs.Entries.{ListedAs};
 
 use layout::Layout;
-use pcf::{Checked, Opening, opened, structure_count};
+use pcf::{opened, structure_count};
 use refusals::Refusal;
 use text::put_refusal;
 use whole::put_listing;
 
-// What `list` answers: the text's length, or 1, 18, or 2 to 5.
-#[derive(Clone, Copy)]
-pub enum Listed {
-    Text(usize),
-    Refused(Refusal),
-}
-
 // LIST: the listing of the message in the first `len` bytes, written from the buffer's first byte on: the structures of its
-// part, and in the header line the whole message's length. A message that is refused leaves the buffer as it was, so the check
-// comes first.
-pub fn list(msg: &[u8], len: usize, layout: Layout, out: &mut [u8; 131072]) -> Listed
+// part, and in the header line the whole message's length. The answer is the text's length, or 1, 18, or 2 to 5. A message that
+// is refused leaves the buffer as it was, so the check comes first.
+#[tactic(auto, using(crate::proofs::Entries::around, crate::proofs::Entries::bytes_there, crate::proofs::Entries::list_checked, pcf::proofs::Openings::opened_reaches))]
+pub fn list(
+    msg: &[u8],
+    len: usize,
+    layout: Layout,
+    out: &mut [u8; 131072],
+) -> Result<usize, Refusal>
     ensures { ListedAs (layout_of layout) msg.now len out.old out.new result }
 {
-    let opening = opened(msg, len, layout);
-    match opening {
-        Opening::Refused(r) => Listed::Refused(r),
-        Opening::Sound(part, count) => {
-            let found = structure_count(msg, part, count);
-            match found {
-                Checked::Refused(r) => Listed::Refused(r),
-                Checked::Sound(n) => {
-                    let end = part.end;
-                    Listed::Text(put_listing(&msg[..end], part.start, len as u32, n, out))
-                }
-            }
-        }
-    }
+    let opening = opened(msg, len, layout)?;
+    let count = structure_count(msg, opening)?;
+    let part = opening.part;
+    Ok(put_listing(&msg[..part.end], part.start, len as u32, count, out))
 }
 
 // The line of a refusal, from the buffer's first byte on.
+#[tactic(auto, using(meaning::proofs::Lines::refusal_line_most))]
 pub fn refused_line(r: Refusal, out: &mut [u8; 131072]) -> usize
     requires { place_of r < 4294967296 }
     ensures { Wrote out.old 0 (refusal_line (number_of r) (place_of r)) out.new result }
 {
-    put_refusal(out, 0, refusals::number(r), refusals::place(r) as u32)
+    put_refusal(out, 0, r.number(), r.place() as u32)
 }
 
 // PRINT: all that the listing program writes for an input. The answer is the text's length.
 pub fn print(input: &[u8], layout: Layout, out: &mut [u8; 131072]) -> usize
     ensures { Prints (listing_of (layout_of layout) input.now (length input.now)) out.old out.new result }
 {
-    let listed = list(input, input.len(), layout, out);
-    match listed {
-        Listed::Text(n) => n,
-        Listed::Refused(r) => refused_line(r, out),
+    match list(input, input.len(), layout, out) {
+        Ok(n) => n,
+        Err(r) => refused_line(r, out),
     }
 }

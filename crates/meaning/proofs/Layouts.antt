@@ -1,6 +1,6 @@
 -- What a layout tells of a message, by cases on the form: all that is known of the form above this file.
 use mathlib.Core.Path.{◌≡◌, refl, sym, ap, ◌∙◌}
-use mathlib.Core.Bool.{true, ◌&&◌}
+use mathlib.Core.Bool.{true}
 use mathlib.Core.List.{List, [], ◌∷◌, ◌++◌, append_assoc}
 use Prim.Native.Nat.{ℕ, ◌+◌, ◌*◌, ◌%◌, ◌≤◌, ◌<◌}
 use native.Mathlib.Nat.{zero-add}
@@ -12,13 +12,11 @@ use borrow.Author.Tests.{leb-true, le-leb, eqb-true, eq-eqb}
 use Rattle.meaning.specs.Bytes.{Part, part_of, number, num, words}
 use Rattle.meaning.specs.Names.{most_bytes}
 use Rattle.meaning.specs.Answer.{accepted}
-use Rattle.meaning.specs.Structure.{aligned}
 use Rattle.meaning.specs.Layout.{Form, plain, embedded, Layout, report_layout, identifier, is_identified, start_of, end_of, embedded_ok, part_in, length_ok, located, user_data, Embedding, no_embedding, embedding_of, embedded_header, laid_out, laid_out_length, lengthened}
 use Rattle.meaning.proofs.Tests.{and_true, unless_accepted}
 use Rattle.meaning.proofs.Numbers.{length-words, number-words, number_skip, number_in, Run}
 use Rattle.meaning.proofs.Stores.{length_store, store_same, num_store, store_as, store_both, take-store, drop-store}
 use Rattle.meaning.proofs.Structures.{num_same}
-use Rattle.meaning.proofs.Parts.{num_part}
 
 -- A MESSAGE THAT IS LOCATED, as a record of facts: its part has room for a header and lies in it
 pub record Sized (l : Layout) (buf : List ℕ) (len : ℕ) : Type 0 where
@@ -54,17 +52,6 @@ header_ok m h =
 identified_same : (b b' : List ℕ) → ((i : ℕ) → i < 4 → get_or b i 0 ≡ get_or b' i 0) → is_identified b ≡ is_identified b'
 unfolding is_identified
 identified_same b b' h = rw (h 0 (omega arith), h 1 (omega arith), h 2 (omega arith), h 3 (omega arith)) refl
-
--- the tests of an embedded header, by the numbers of the buffer
-pub embedded_by : (buf : List ℕ) (len : ℕ) → 12 ≤ len → embedded_ok embedded (part_of buf len)
-    ≡ is_identified buf && (eqb (number buf 4) 1 && (leb 68 (number buf 8) && (leb (number buf 8) len && aligned (number buf 8))))
-unfolding embedded_ok
-embedded_by buf len h =
-    rw (
-      identified_same (take len buf) buf (λ i k. get_or-take len buf i 0 (omega arith)),
-      num_part buf len 4 (omega arith),
-      num_part buf len 8 (omega arith),
-    ) refl
 
 pub plain_ok : (m : Part) → embedded_ok plain m ≡ true
 unfolding embedded_ok

@@ -5,19 +5,15 @@ use mathlib.Core.List.{List, [], ◌∷◌, ◌++◌, append_assoc, append-nil}
 use Prim.Native.Nat.{ℕ, suc, ◌+◌, ◌*◌, ◌-◌, ◌≤◌, ◌<◌}
 use native.Mathlib.Nat.{zero-add, add-zero}
 use native.Mathlib.Omega.{arith}
-use native.Mathlib.Numerals.{towards_suc, add-one}
+use native.Mathlib.Numerals.{add-one}
 use lib.ListN.{length, set, get_or, take, drop, length-append, length-drop, get_or-append, take-append-drop, drop_of_length-le}
 use lib.Dec.{leb, ltb}
 use borrow.Author.Tests.{ltb-true, ltb-false, leb-true, leb-false}
-use lib.Seq.{length-take-le, get_or-append-add, get_or-take, get_or-drop, set_split, take-set-le, sets-eq, paste, take-length, take-take, take_at, drop_at, drop-drop, ext_get_or, take_all}
+use lib.Seq.{length-take-le, get_or-append-add, get_or-take, get_or-drop, set_split, take-set-le, paste, take-length, take-take, take_at, drop_at, drop-drop, ext_get_or, take_all}
 use Rattle.meaning.specs.Bytes.{number, bytes4, words, splice}
 use Rattle.meaning.proofs.Numbers.{number-bytes4, length-bytes4, length-words, Run, number_match}
 
--- what straight-line stores and a copying loop leave
-pub splice_stores : (d : List ℕ) (at x y z w : ℕ) → at + 4 ≤ length d → set (set (set (set d at x) (at + 1) y) (at + 2) z) (at + 3) w ≡ splice d at (x ∷ y ∷ z ∷ w ∷ [])
-unfolding splice
-splice_stores d at x y z w h = simp towards_suc (simp towards_suc at (sets-eq (x ∷ y ∷ z ∷ w ∷ []) d at h))
-
+-- what a copying loop leaves
 pub splice_copy : (d : List ℕ) (at : ℕ) (s : List ℕ) → paste d at s (length s) ≡ splice d at s
 unfolding splice
 splice_copy d at s = rw (take-length s) refl

@@ -19,10 +19,8 @@ fn put_word(buffer: &mut [u8; 512], at: usize, word: u32) -> usize {
 // Words one behind the other; the answer is the place behind them.
 fn put(buffer: &mut [u8; 512], at: usize, words: &[u32]) -> usize {
     let mut next = at;
-    let mut i = 0;
-    while i < words.len() {
-        next = put_word(buffer, next, words[i]);
-        i += 1;
+    for &word in words {
+        next = put_word(buffer, next, word);
     }
     next
 }

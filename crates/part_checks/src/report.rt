@@ -7,15 +7,8 @@ pub fn say(text: &[u8]) {
 
 // Bytes, each zero byte as a dot.
 pub fn say_bytes(bytes: &[u8]) {
-    let mut i = 0;
-    while i < bytes.len() {
-        let byte = bytes[i];
-        if byte == 0 {
-            say(b".");
-        } else {
-            say(&[byte]);
-        }
-        i += 1;
+    for &byte in bytes {
+        say(&[if byte == 0 { b'.' } else { byte }]);
     }
 }
 

@@ -1,3 +1,2 @@
 pub mod Openings
-mod Sums
 pub mod Closes

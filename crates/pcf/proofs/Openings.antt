@@ -2,49 +2,37 @@
 use mathlib.Core.Path.{◌≡◌, refl, sym, ap, ◌∙◌}
 use mathlib.Core.Bool.{Bool, true, false}
 use mathlib.Core.List.{List}
-use Prim.Native.Nat.{ℕ, ◌+◌}
+use Prim.Native.Nat.{ℕ, ◌≤◌}
 use native.Mathlib.Omega.{arith}
-use Rattle.meaning.specs.Bytes.{Part, part_of, number, num}
+use lib.ListN.{length, take}
+use Rattle.meaning.specs.Bytes.{Part, whole, part_of}
 use Rattle.meaning.specs.Names.{bad_header}
 use Rattle.meaning.specs.Answer.{Result, accepted, refused, and_then}
+use Rattle.meaning.specs.Structure.{structure_at}
 use Rattle.meaning.specs.Layout.{Layout, located}
 use Rattle.meaning.specs.Message.{parameter_count, header_ok, rows_of, scan}
 use Rattle.meaning.specs.Walk.{walk}
-use Rattle.meaning.proofs.Fuel.{walk_from}
+use Rattle.meaning.proofs.Fuel.{walk_from, structure_from}
 use Rattle.meaning.proofs.Tests.{unless_accepted, then_accepted}
-use Rattle.meaning.proofs.Parts.{num_part}
 use Rattle.meaning.proofs.Layouts.{inside}
-use Rattle.layout.specs.Layouts.{part_at, located_of}
+use Rattle.wire.proofs.Parts.{whole-take}
+use Rattle.layout.specs.Layouts.{part_at}
 use Rattle.layout.specs.declared.part.Part.{Part as PartIn}
-use Rattle.layout.specs.declared.part.Located.{Located}
-use Rattle.pcf.specs.Messages.{Opened, opened_in, opened, opened_of, structures_of, Reaches}
-use Rattle.pcf.specs.declared.message.Opening.{Opening}
+use Rattle.pcf.specs.Messages.{Opened, opened_in, opened, structures_of, Reaches}
 
--- the walk is over the bytes up to the part's end, wherever it starts
-pub walk_part : (buf : List ℕ) (p : PartIn) (at d n : ℕ) → walk (part_at buf p) at d n ≡ walk (part_of buf p.end) at d n
-walk_part buf p at d n = walk_from p.start (part_of buf p.end) at d n
+-- the walk is over the bytes up to the part's end, and so is a structure met, wherever the part starts
+module _ (buf : List ℕ) (p : PartIn) (h : p.end ≤ length buf) (at d : ℕ) where
+  pub walk_part : (n : ℕ) → walk (part_at buf p) at d n ≡ walk (whole (take p.end buf)) at d n
+  walk_part n = walk_from p.start (part_of buf p.end) at d n ∙ ap (λ (m : Part). walk m at d n) (sym (whole-take buf p.end h))
+
+  pub structure_part : structure_at (part_at buf p) at d ≡ structure_at (whole (take p.end buf)) at d
+  structure_part = structure_from p.start (part_of buf p.end) at d ∙ ap (λ (m : Part). structure_at m at d) (sym (whole-take buf p.end h))
 
 module _ (l : Layout) (buf : List ℕ) (len : ℕ) where
-  pub shut : (k q : ℕ) → located l buf len ≡ refused k q → refused k q ≡ opened l buf len
-  unfolding opened
-  shut k q e = rw e refl
-
-  pub reaches : (p : PartIn) → located l buf len ≡ accepted (part_at buf p) → Reaches buf p
+  pub reaches : (p : PartIn) → accepted (part_at buf p) ≡ located l buf len → Reaches buf p
   reaches p e =
-      let i = inside l buf len (part_at buf p) e in
+      let i = inside l buf len (part_at buf p) (sym e) in
       record { room = i.room; there = omega (arith, i.within, i.there); most = omega (arith, i.within, i.most) }
-
-  module _ (p : PartIn) (e : located l buf len ≡ accepted (part_at buf p)) where
-    pub unheaded : header_ok (part_at buf p) ≡ false → refused bad_header 0 ≡ opened l buf len
-    unfolding opened opened_in
-    unheaded h = rw (e, h) refl
-
-    pub headed : header_ok (part_at buf p) ≡ true → (n : ℕ) → n ≡ number buf (p.start + 32)
-        → accepted (record { part = part_at buf p; count = n }) ≡ opened l buf len
-    unfolding opened opened_in
-    headed h n f =
-        let g : num (part_at buf p) (p.start + 32) ≡ n = num_part buf p.end (p.start + 32) (omega (arith, (reaches p e).room)) ∙ sym f in
-        rw (e, h, g) refl
 
   -- a part that was opened was located, and has a sound header with this count
   pub record Begun (o : Opened) : Type 0 where
@@ -65,6 +53,10 @@ module _ (l : Layout) (buf : List ℕ) (len : ℕ) where
         counts = ap parameter_count (sym m) ∙ ap (λ (x : Opened). x.count) q;
       }
 
+  -- and so it lies in the buffer
+  pub opened_reaches : (p : PartIn) (n : ℕ) → accepted (record { part = part_at buf p; count = n }) ≡ opened l buf len → Reaches buf p
+  opened_reaches p n e = reaches p (sym (begun _ (sym e)).lies)
+
   -- its structures come next, and nothing may follow
   pub scan_opened : scan l buf len ≡ and_then (opened l buf len) (λ o. structures_of o.part o.count)
   unfolding scan opened rows_of opened_in
@@ -77,10 +69,3 @@ module _ (l : Layout) (buf : List ℕ) (len : ℕ) where
       go : (r : Result Part) → and_then r rows_of ≡ and_then (and_then r opened_in) (λ o. structures_of o.part o.count)
       go (accepted m) = rows m (header_ok m) refl
       go (refused k q) = refl
-
--- what was located, and what was opened
-pub located_as : (buf : List ℕ) {f g : Located} {x : Result Part} → located_of buf f ≡ x → f ≡ g → x ≡ located_of buf g
-located_as buf e h = sym e ∙ ap (located_of buf) h
-
-pub opened_as : (buf : List ℕ) {f g : Opening} {x : Result Opened} → opened_of buf f ≡ x → f ≡ g → x ≡ opened_of buf g
-opened_as buf e h = sym e ∙ ap (opened_of buf) h

@@ -3,6 +3,4 @@
 
 mod message;
 
-pub use message::{
-    Checked, Cursor, Opening, Stepped, Tallied, check, opened, step, structure_count, tally,
-};
+pub use message::{Cursor, Opening, Stepped, Tallied, check, opened, step, structure_count, tally};

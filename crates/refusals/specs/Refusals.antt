@@ -1,7 +1,7 @@
 -- The number and place of each refusal, and whether a reply is owed.
-use Rattle.std.specs.Prelude.{ℕ, Bool, false}
+use Rattle.std.specs.Prelude.{ℕ, Bool, false, Result, Ok, Err}
 use Rattle.meaning.specs.Names.{bad_length, bad_header, bad_structure, too_deep, left_over, no_trace_header, no_trace_route, bad_attribute, bad_group, MQFB_MAX_ACTIVITIES, counter_full, no_room, report_too_short, MQFB_UNSUPPORTED_DELIVERY, MQFB_UNSUPPORTED_FORWARDING, MQFB_NOT_FORWARDED, bad_sheet, bad_embedded_header}
-use Rattle.meaning.specs.Answer.{Result, refused}
+use Rattle.meaning.specs.Answer.{Result as Meant, accepted, refused}
 use Rattle.refusals.specs.declared.Refusal.{Refusal}
 use Rattle.refusals.specs.declared.Refusal.TheVariants.{BadLength, BadHeader, BadStructure, TooDeep, LeftOver, NoTraceHeader, NoTraceRoute, BadAttribute, BadGroup, MaxActivities, CounterFull, NoRoom, ReportTooShort, UnsupportedDelivery, UnsupportedForwarding, NotForwarded, BadSheet, BadEmbeddedHeader}
 
@@ -68,5 +68,14 @@ owed BadSheet = false
 owed BadEmbeddedHeader = false
 
 -- the refusal as an answer of the meaning
-abbrev pub refusal : {A : Type 0} → Refusal → Result A
+abbrev pub refusal : {A : Type 0} → Refusal → Meant A
 refusal r = refused (number_of r) (place_of r)
+
+-- an answer of the code in the meaning's terms: what it gives, as f has it, or the refusal
+abbrev pub answered : {A B : Type 0} → (A → B) → Result A Refusal → Meant B
+answered f (Ok x) = accepted (f x)
+answered f (Err r) = refusal r
+
+-- the same of what is given as it is
+abbrev pub answer : {A : Type 0} → Result A Refusal → Meant A
+answer r = answered (λ x. x) r

@@ -4,8 +4,8 @@
 ghost use Rattle.std.specs.Prelude.{◌≡◌};
 ghost use Rattle.refusals.specs.Refusals.{number_of, place_of, owed};
 
-// What an entry answers when it gives nothing. A case holds its place where the rules' table has one that is not 0.
-#[derive(Clone, Copy)]
+// Why an entry gives nothing: the error of every answer. A case holds its place where the rules' table has one that is not 0.
+#[derive(Clone, Copy, Debug, PartialEq, Eq)]
 pub enum Refusal {
     // 1: length above the buffer or 65,536, or below 36, embedded 68
     BadLength,
@@ -45,50 +45,50 @@ pub enum Refusal {
     BadEmbeddedHeader,
 }
 
-// The refusal's number.
-pub fn number(r: Refusal) -> u32
-    ensures { result ≡ number_of r }
-{
-    match r {
-        Refusal::BadLength => 1,
-        Refusal::BadHeader => 2,
-        Refusal::BadStructure(_) => 3,
-        Refusal::TooDeep(_) => 4,
-        Refusal::LeftOver(_) => 5,
-        Refusal::NoTraceHeader => 6,
-        Refusal::NoTraceRoute => 7,
-        Refusal::BadAttribute => 8,
-        Refusal::BadGroup => 9,
-        Refusal::MaxActivities(_) => 10,
-        Refusal::CounterFull => 11,
-        Refusal::NoRoom => 12,
-        Refusal::ReportTooShort => 13,
-        Refusal::UnsupportedDelivery => 14,
-        Refusal::UnsupportedForwarding => 15,
-        Refusal::NotForwarded => 16,
-        Refusal::BadSheet => 17,
-        Refusal::BadEmbeddedHeader => 18,
+impl Refusal {
+    // Its number.
+    pub fn number(self) -> u32
+        ensures { result ≡ number_of self }
+    {
+        match self {
+            Refusal::BadLength => 1,
+            Refusal::BadHeader => 2,
+            Refusal::BadStructure(_) => 3,
+            Refusal::TooDeep(_) => 4,
+            Refusal::LeftOver(_) => 5,
+            Refusal::NoTraceHeader => 6,
+            Refusal::NoTraceRoute => 7,
+            Refusal::BadAttribute => 8,
+            Refusal::BadGroup => 9,
+            Refusal::MaxActivities(_) => 10,
+            Refusal::CounterFull => 11,
+            Refusal::NoRoom => 12,
+            Refusal::ReportTooShort => 13,
+            Refusal::UnsupportedDelivery => 14,
+            Refusal::UnsupportedForwarding => 15,
+            Refusal::NotForwarded => 16,
+            Refusal::BadSheet => 17,
+            Refusal::BadEmbeddedHeader => 18,
+        }
     }
-}
 
-// The refusal's place in the message, 0 where the table has 0.
-pub fn place(r: Refusal) -> usize
-    ensures { result ≡ place_of r }
-{
-    match r {
-        Refusal::BadStructure(at) => at,
-        Refusal::TooDeep(at) => at,
-        Refusal::LeftOver(at) => at,
-        _ => 0,
+    // Its place in the message, 0 where the table has 0.
+    pub fn place(self) -> usize
+        ensures { result ≡ place_of self }
+    {
+        match self {
+            Refusal::BadStructure(at) | Refusal::TooDeep(at) | Refusal::LeftOver(at) => at,
+            _ => 0,
+        }
     }
-}
 
-// Whether a reply is owed.
-pub fn reply_owed(r: Refusal) -> bool
-    ensures { result ≡ owed r }
-{
-    match r {
-        Refusal::MaxActivities(reply) => reply,
-        _ => false,
+    // Whether a reply is owed.
+    pub fn reply_owed(self) -> bool
+        ensures { result ≡ owed self }
+    {
+        match self {
+            Refusal::MaxActivities(reply) => reply,
+            _ => false,
+        }
     }
 }

@@ -1,67 +1,47 @@
--- What Read gives, and what the decisions rest on, from the trace.
-use mathlib.Core.Path.{◌≡◌, refl, ap, ◌∙◌}
+-- What Read gives, from the trace.
+use mathlib.Core.Path.{◌≡◌, refl, sym, ap, ◌∙◌}
 use mathlib.Core.List.{List}
 use Prim.Native.Nat.{ℕ, ◌≤◌}
 use native.Mathlib.Omega.{arith}
 use Rattle.meaning.specs.Bytes.{part_of}
-use Rattle.meaning.specs.Answer.{Result, accepted, refused, and_then}
-use Rattle.meaning.specs.Structure.{Row}
-use Rattle.meaning.specs.Layout.{start_of, part_in, Embedding, no_embedding, embedding_of}
-use Rattle.meaning.specs.Trace.{Terms, Trace, read_trace, read}
+use Rattle.meaning.specs.Answer.{Result, accepted, refused}
+use Rattle.meaning.specs.Layout.{start_of, part_in, Embedding, embedding_of}
+use Rattle.meaning.specs.Trace.{Terms, Trace, Reading, read_trace, read}
 use Rattle.meaning.proofs.Layouts.{Sized, same_embedding}
 use Rattle.meaning.proofs.Sound.{sound}
-use Rattle.refusals.specs.Refusals.{number_of, place_of}
-use Rattle.refusals.specs.declared.Refusal.{Refusal as Refused}
-use Rattle.layout.specs.Layouts.{form_of, layout_of}
-use Rattle.layout.specs.declared.part.Layout.{Layout}
-use Rattle.layout.specs.declared.part.Part.{Part}
-use Rattle.attributes.specs.Terms.{terms_of}
-use Rattle.trace.specs.Locations.{present_of, lying, Readout, traced, traced_by, traced_of, none}
-use Rattle.trace.specs.declared.location.Answer.TheVariants as told
+use Rattle.meaning.proofs.Tests.{then_accepted, then_refused}
+use Rattle.trace.specs.Locations.{traced, traced_by}
 use Rattle.trace.specs.declared.location.Traced.{Traced}
-use Rattle.trace.proofs.Locating.{traced_refused, traced-found}
-use Rattle.routing.specs.Readings.{reading}
 
--- a decision by the values that Read gives is one by the values of the trace
-pub by_values : {D : Type 0} (tm : Terms) (buf : List ℕ) (len : ℕ) (f : List ℕ → Result D) (x : Result Trace) → read_trace tm buf len ≡ x
-    → and_then (read tm buf len) (λ r. f r.values) ≡ and_then x (λ t. f t.values)
-unfolding read
-by_values tm buf len f (accepted t) e = rw e refl
-by_values tm buf len f (refused k p) e = rw e refl
+same_reading : {v v' : List ℕ} {x x' : Embedding} {u u' : ℕ} → v ≡ v' → x ≡ x' → u ≡ u'
+    → ◌≡◌ {A = Result Reading} (accepted (record { values = v; embedding = x; user_place = u })) (accepted (record { values = v'; embedding = x'; user_place = u' }))
+same_reading a b c = rw (a, b, c) refl
 
-module _ (l : Layout) (sheet msg : List ℕ) (len : ℕ) (t : Traced) (e : traced_of t ≡ traced_by 0 (terms_of (layout_of l) sheet) msg len) where
-  abbrev tm : Terms
-  tm = terms_of (layout_of l) sheet
+module _ (tm : Terms) (msg : List ℕ) (len : ℕ) where
+  pub read_none : (k p : ℕ) → refused k p ≡ traced_by 0 tm msg len → refused k p ≡ read tm msg len
+  unfolding read
+  read_none k p e = rw (then_refused (read_trace tm msg len) (traced 0 (part_in tm.layout msg len)) k p (sym e)) refl
 
-  module _ (r : Refused) (h : t.answer ≡ told.Refused r) where
-    pub unread : read_trace tm msg len ≡ refused (number_of r) (place_of r)
-    unread = traced_refused 0 (part_in (layout_of l) msg len) (read_trace tm msg len) (traced_of t) (number_of r) (place_of r) e (ap present_of h)
+  read_by : (x : Trace) → read_trace tm msg len ≡ accepted x
+      → accepted (record { values = x.values; embedding = embedding_of tm.layout.form (part_of msg len); user_place = (part_in tm.layout msg len).end }) ≡ read tm msg len
+  unfolding read
+  read_by x e = rw e refl
 
-    pub read_none : (x : Embedding) → x ≡ no_embedding
-        → record { answer = refused (number_of r) (place_of r); beside = record { values = t.values; embedding = x; user_place = 0 } } ≡ reading (read tm msg len)
-    unfolding read
-    read_none x g =
-        let v : t.values ≡ none = ap (λ (y : Readout). y.values) (e ∙ ap (traced 0 (part_in (layout_of l) msg len)) unread) in
-        rw (unread, v, g) refl
+  module _ (t : Traced) (e : accepted t ≡ traced_by 0 tm msg len) where
+    found : (x : Trace) × (read_trace tm msg len ≡ accepted x) × (accepted (traced 0 (part_in tm.layout msg len) x) ≡ accepted t)
+    found = then_accepted (read_trace tm msg len) (λ x. accepted (traced 0 (part_in tm.layout msg len) x)) t (sym e)
 
-  module _ (h : t.answer ≡ told.Found) where
-    abbrev found : (rows : List Row) × (read_trace tm msg len ≡ accepted (record { rows = rows; places = t.places; values = t.values })) × (t.part ≡ lying (part_in (layout_of l) msg len))
-    found = traced-found 0 (part_in (layout_of l) msg len) (read_trace tm msg len) (traced_of t) e (ap present_of h)
+    same : t ≡ traced 0 (part_in tm.layout msg len) found.0
+    same = cc found.2
 
-    pub was_read : read_trace tm msg len ≡ accepted (record { rows = found.0; places = t.places; values = t.values })
-    was_read = found.1
+    pub lies : Sized tm.layout msg len
+    lies = (sound tm msg len found.0 found.1).lies
 
-    pub lies : Sized (layout_of l) msg len
-    lies = (sound tm msg len _ was_read).lies
-
-    pub read_all : (x : Embedding) → x ≡ embedding_of (form_of l.form) (part_of msg (start_of (form_of l.form)))
-        → record { answer = accepted (record { values = t.values; embedding = x; user_place = t.part.end }); beside = record { values = t.values; embedding = x; user_place = t.part.end } }
-        ≡ reading (read tm msg len)
-    unfolding read
+    pub read_all : (x : Embedding) → x ≡ embedding_of tm.layout.form (part_of msg (start_of tm.layout.form))
+        → accepted (record { values = t.values; embedding = x; user_place = t.part.end }) ≡ read tm msg len
     read_all x g =
         let z = lies in
-        let k : start_of (form_of l.form) ≤ len = omega (arith, z.least, z.within) in
-        let s : embedding_of (form_of l.form) (part_of msg (start_of (form_of l.form))) ≡ embedding_of (form_of l.form) (part_of msg len) =
-        same_embedding (form_of l.form) msg msg (start_of (form_of l.form)) len (omega arith) k (omega (arith, z.there)) z.there (λ i a b. refl) in
-        let p : t.part.end ≡ (part_in (layout_of l) msg len).end = ap (λ (y : Part). y.end) found.2 in
-        rw (was_read, g, s, p) refl
+        let k : start_of tm.layout.form ≤ len = omega (arith, z.least, z.within) in
+        let s : embedding_of tm.layout.form (part_of msg (start_of tm.layout.form)) ≡ embedding_of tm.layout.form (part_of msg len) =
+        same_embedding tm.layout.form msg msg (start_of tm.layout.form) len (omega arith) k (omega (arith, z.there)) z.there (λ i a b. refl) in
+        same_reading (ap (λ (x : Traced). x.values) same) (g ∙ s) (ap (λ (x : Traced). x.part.end) same) ∙ read_by found.0 found.1

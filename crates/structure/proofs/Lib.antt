@@ -1,5 +1,2 @@
-mod Lengths
-mod Soundness
-pub mod Findings
+pub mod Soundness
 pub mod Extents
-mod ByType

@@ -3,19 +3,11 @@ use Rattle.std.specs.Prelude.{ℕ, ◌+◌, ◌%◌, Bool, ◌&&◌, leb, eqb}
 use Rattle.meaning.specs.Bytes.{Part, word}
 use Rattle.meaning.specs.Answer.{Result, accepted, and_then}
 use Rattle.meaning.specs.Structure.{Row as Structure, length_rule}
-use Rattle.refusals.specs.Refusals.{refusal}
 use Rattle.structure.specs.declared.structure.Row.{Row}
-use Rattle.structure.specs.declared.structure.Found.{Found}
-use Rattle.structure.specs.declared.structure.Found.TheVariants.{Structure as found, Refused}
 use Rattle.structure.specs.declared.structure.Extent.{Extent}
-use Rattle.structure.specs.declared.structure.Extent.TheVariants as extent
 
 abbrev pub row_of : Row → Structure
 row_of r = record { depth = r.depth; place = r.place; kind = r.kind; parameter = r.parameter; size = r.size; members = r.members }
-
-abbrev pub found_of : Found → Result Structure
-found_of (found r) = accepted (row_of r)
-found_of (Refused q) = refusal q
 
 -- a structure's length, and how many structures follow inside it
 pub record Reach : Type 0 where
@@ -26,9 +18,8 @@ pub record Reach : Type 0 where
 abbrev pub reach_of : Result Structure → Result Reach
 reach_of x = and_then x (λ r. accepted (record { size = r.size; members = r.members }))
 
-abbrev pub extent_of : Extent → Result Reach
-extent_of (extent.Sound n k) = accepted (record { size = n; members = k })
-extent_of (extent.Refused q) = refusal q
+abbrev pub extent_of : Extent → Reach
+extent_of x = record { size = x.size; members = x.members }
 
 -- a structure of the type t and of n bytes at p is sound, however deep it is
 unfoldable pub sound_in : Part → ℕ → ℕ → ℕ → Bool

@@ -4,5 +4,5 @@
 mod structure;
 mod table;
 
-pub use structure::{Extent, Found, MQCFT_GROUP, MQCFT_INTEGER, Row, extent_at, structure_at};
+pub use structure::{Extent, MQCFT_GROUP, MQCFT_INTEGER, Row, extent_at, structure_at};
 pub use table::TWO_TO_31;

@@ -8,7 +8,7 @@ use wire::number_at;
 pub const TWO_TO_31: u32 = 2147483648;
 
 // The length rule of a structure type. Fields are named by their offset from the structure's start.
-#[derive(Clone, Copy)]
+#[derive(Clone, Copy, Debug, PartialEq, Eq)]
 pub enum Rule {
     // exactly this length
     Exact(u32),
@@ -40,16 +40,12 @@ pub fn rule_of(kind: u32) -> Rule
         6 => Rule::Strings,
         // byte string
         9 => Rule::Data(12),
-        // filters: integer, string, byte
-        13..=15 => {
-            if kind == 13 {
-                Rule::Exact(20)
-            } else if kind == 14 {
-                Rule::Data(20)
-            } else {
-                Rule::Data(16)
-            }
-        }
+        // filters, which the rules give as one range: integer, string, byte
+        13..=15 => match kind {
+            13 => Rule::Exact(20),
+            14 => Rule::Data(20),
+            _ => Rule::Data(16),
+        },
         // group
         20 => Rule::Group,
         // 64-bit integer
@@ -65,25 +61,26 @@ fn product(n: u32, m: u32) -> u64
     requires { m < 2147483648 }
     ensures { Product n m result }
 {
-    (n as u64) * (m as u64)
+    u64::from(n) * u64::from(m)
 }
 
 // The structure at `place` keeps the rule with its length, `size`. `first` is its field at 12, which every structure has.
+#[tactic(auto, unfolding(crate::specs::Rules::field_of))]
 pub fn length_kept(s: &[u8], place: usize, size: u32, first: u32, rule: Rule) -> bool
     requires { Fields s.now place (place + size) first }
     ensures { result ≡ kept rule size (field_of s.now place size) }
 {
-    let whole = size as u64;
+    let whole = u64::from(size);
     match rule {
         Rule::Exact(n) => size == n,
         Rule::Values(each) => first < TWO_TO_31 && whole == 16 + product(each, first),
         Rule::Data(at) => {
-            let fixed = (at as u64) + 4;
+            let fixed = u64::from(at) + 4;
             if whole < fixed {
                 return false;
             }
             let n = number_at(s, place + at as usize);
-            n < TWO_TO_31 && fixed + (n as u64) <= whole
+            n < TWO_TO_31 && fixed + u64::from(n) <= whole
         }
         Rule::Strings => {
             if size < 24 {
@@ -91,7 +88,7 @@ pub fn length_kept(s: &[u8], place: usize, size: u32, first: u32, rule: Rule) ->
             }
             let n = number_at(s, place + 16);
             let each = number_at(s, place + 20);
-            n < TWO_TO_31 && (each < TWO_TO_31 && 24 + product(n, each) <= whole)
+            n < TWO_TO_31 && each < TWO_TO_31 && 24 + product(n, each) <= whole
         }
         Rule::Group => first < TWO_TO_31 && size == 16,
         Rule::Unknown => false,

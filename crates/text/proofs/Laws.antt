@@ -6,7 +6,8 @@ use native.Mathlib.Omega.{arith}
 use lib.ListN.{length, set, length-append}
 use Rattle.meaning.specs.Bytes.{splice}
 use Rattle.meaning.proofs.Splices.{length_splice, splice-none, splice_next, splice_push, splice_last}
-use Rattle.meaning.proofs.Decimals.{last_digits, last_none, last_step, length_last}
+use Rattle.meaning.specs.Listing.{decimal, column}
+use Rattle.meaning.proofs.Decimals.{length-column, last_digits, last_none, last_step, length_last}
 use Rattle.text.specs.Wrote.{Room, Wrote}
 
 -- where two texts have room, the first one has
@@ -38,6 +39,10 @@ push {d} {at} {xs} {t} {n} v w h =
       bytes = ap (λ (x : List ℕ). set x n v) w.bytes ∙ splice_push d at xs n v w.place h;
       place = omega (arith, w.place, length-append xs (v ∷ []));
     }
+
+-- a number's text and the byte behind it
+pub column_length : (v behind : ℕ) → length (column v behind) ≡ length (decimal v) + 1
+column_length v behind = length-column v behind
 
 -- a digit written, and the digits before it still to come
 pub turn : (d : List ℕ) (at k n : ℕ) → 0 < k → at + k ≤ length d

@@ -8,62 +8,60 @@ use native.Mathlib.Omega.{arith}
 use lib.ListN.{length, get_or, take}
 use lib.Dec.{leb, eqb}
 use borrow.Author.Tests.{eqb-true, eq-eqb, ne_eqb, le-leb, lt-leb}
-use Rattle.meaning.specs.Bytes.{Part, part_of, number}
+use Rattle.meaning.specs.Bytes.{Part, whole, number}
 use Rattle.meaning.specs.Names.{MQGACF_TRACE_ROUTE, MQGACF_ACTIVITY, bad_attribute, bad_sheet, no_trace_header, no_trace_route, left_over}
 use Rattle.meaning.specs.Answer.{Result, accepted, refused, and_then, unless}
 use Rattle.meaning.specs.Structure.{Row}
 use Rattle.meaning.specs.Walk.{Walked, walked, walk, rows_in}
-use Rattle.meaning.specs.Layout.{Layout, part_in}
+use Rattle.meaning.specs.Layout.{part_in}
 use Rattle.meaning.specs.Message.{field, header_ok, closed, scan}
 use Rattle.meaning.specs.Trace.{Terms, Trace, sheet_ok, trace_fields, trace_header, Top, groups, trace_routes, direct_in, direct_members, each_once, places_of, value_at, values_at, in_range, read_members, read_rows, read_trace}
 use Rattle.meaning.specs.Activity.{no_group}
 use Rattle.meaning.specs.Compose.{header_fields, trace_header_fields}
-use Rattle.meaning.proofs.Tests.{clash, and_true, and_false}
-use Rattle.meaning.proofs.Walks.{Walks, walks, walks_as, walk_of, in_nil, tiles, tiles_row, tiles_from}
+use Rattle.meaning.proofs.Tests.{and_true, and_false, then_accepted, then_refused}
+use Rattle.meaning.proofs.Walks.{Walks, walks, walks_as, walk_of, in_nil, tiles, tiles_row}
 use Rattle.meaning.proofs.Parts.{num_part}
 use Rattle.meaning.proofs.Tops.{TopAt, all_at, all_groups, tops_at}
-use Rattle.attributes.specs.Terms.{terms_of}
 use Rattle.meaning.proofs.Layouts.{sized}
 use Rattle.layout.specs.Layouts.{part_at}
 use Rattle.layout.specs.declared.part.Part.{Part as PartIn}
-use Rattle.pcf.specs.Messages.{Opened, opened, structures_of, Reaches}
-use Rattle.pcf.proofs.Openings.{walk_part, scan_opened, begun, reaches}
+use Rattle.pcf.specs.declared.message.Opening.{Opening}
+use Rattle.pcf.specs.Messages.{Opened, opened, opening_of, structures_of, Reaches}
+use Rattle.pcf.proofs.Openings.{Begun as Opened-as, walk_part, scan_opened, begun, reaches}
 use Rattle.header.specs.Headers.{fields_of, starts_with}
 use Rattle.trace.specs.Passing.{is_sound}
-use Rattle.trace.specs.Groups.{whole_group, counted, Surveyed, surveyed}
-use Rattle.trace.specs.Locations.{Begun, Within, stop, found, attributes_by, attributes_in, judged_in, lying, Present, present, Readout, traced, traced_by}
+use Rattle.trace.specs.Groups.{whole_group, counted, tops_of, surveyed}
+use Rattle.trace.specs.Locations.{Headed, attributes_by, attributes_in, judged_in, lying, traced, traced_by}
+use Rattle.trace.specs.declared.groups.Tops.{Tops}
+use Rattle.trace.specs.declared.location.Traced.{Traced}
 use Rattle.trace.specs.declared.groups.Group.{Group}
 use Rattle.trace.specs.declared.groups.Counted.{Counted}
 use Rattle.header.specs.declared.Kind.TheVariants.{Trace as trace}
-use Rattle.trace.proofs.Marking.{Every, Placed, every_direct}
+use Rattle.trace.proofs.Marking.{Every, every_direct}
 
--- WHERE THE MEMBERS of a group stand: behind its start, and in the message
+-- WHERE THE MEMBERS of a group stand: in the message
 module _ (m : Part) (p n : ℕ) where
-  every_row : (w : Result Walked) → walk m p 2 n ≡ w → Every (λ r. (p ≤ r.place) × (r.place + 16 ≤ m.end)) (rows_in w)
+  every_row : (w : Result Walked) → walk m p 2 n ≡ w → Every (λ r. r.place + 16 ≤ m.end) (rows_in w)
   every_row (accepted w) e r i =
-      let t = tiles (walks m p 2 n w.rows w.next e) in
-      let g = tiles_row m p w.rows w.next t r i in
-      (tiles_from m p w.rows w.next t r i, omega (arith, g.at_fits, g.at_least))
+      let g = tiles_row m p w.rows w.next (tiles (walks m p 2 n w.rows w.next e)) r i in
+      omega (arith, g.at_fits, g.at_least)
   every_row (refused k q) e r i = absurd (in_nil i)
 
-  pub every_member : Every (λ r. (p ≤ r.place) × (r.place + 16 ≤ m.end)) (direct_in (rows_in (walk m p 2 n)))
-  every_member = every_direct (λ r. (p ≤ r.place) × (r.place + 16 ≤ m.end)) (rows_in (walk m p 2 n)) (every_row (walk m p 2 n) refl)
-
-  pub members_placed : 2 ≤ p → Placed (direct_in (rows_in (walk m p 2 n)))
-  members_placed h r i = omega (arith, (every_member r i).0)
+  pub every_member : Every (λ r. r.place + 16 ≤ m.end) (direct_in (rows_in (walk m p 2 n)))
+  every_member = every_direct (λ r. r.place + 16 ≤ m.end) (rows_in (walk m p 2 n)) (every_row (walk m p 2 n) refl)
 
 -- 8, by its two tests
 module _ (sheet : List ℕ) (m : Part) (members : List Row) (activity : Group) (part : PartIn) where
-  pub attributes_unfound : each_once sheet members ≡ false → stop bad_attribute 0 ≡ attributes_by sheet m members activity part
+  pub attributes_unfound : each_once sheet members ≡ false → refused bad_attribute 0 ≡ attributes_by sheet m members activity part
   unfolding attributes_by
   attributes_unfound e = rw e refl
 
   module _ (once : each_once sheet members ≡ true) (places values : List ℕ) (p : places ≡ places_of sheet members) (v : values ≡ values_at m places) where
-    pub attributes_unranged : in_range values ≡ false → stop bad_attribute 0 ≡ attributes_by sheet m members activity part
+    pub attributes_unranged : in_range values ≡ false → refused bad_attribute 0 ≡ attributes_by sheet m members activity part
     unfolding attributes_by
     attributes_unranged e = rw (← p, ← v, once, e) refl
 
-    pub attributes_found : in_range values ≡ true → found places values activity part ≡ attributes_by sheet m members activity part
+    pub attributes_found : in_range values ≡ true → accepted (record { places = places; values = values; activity = activity; part = part }) ≡ attributes_by sheet m members activity part
     unfolding attributes_by
     attributes_found e = rw (← p, ← v, once, e) refl
 
@@ -124,12 +122,12 @@ module _ (msg : List ℕ) (part : PartIn) (least : part.start + 36 ≤ part.end)
 
 -- 6, 7, 8 by their tests
 module _ (sheet : List ℕ) (m : Part) (routes : Counted) (activity : Group) where
-  pub judge_header : trace_header m ≡ false → stop no_trace_header 0 ≡ judged_in sheet m routes activity
+  pub judge_header : trace_header m ≡ false → refused no_trace_header 0 ≡ judged_in sheet m routes activity
   unfolding judged_in
   judge_header e = rw e refl
 
   module _ (header : trace_header m ≡ true) where
-    pub judge_routes : (routes.count ≡ 1 → ⊥) → stop no_trace_route 0 ≡ judged_in sheet m routes activity
+    pub judge_routes : (routes.count ≡ 1 → ⊥) → refused no_trace_route 0 ≡ judged_in sheet m routes activity
     unfolding judged_in
     judge_routes e = rw (header, ne_eqb routes.count 1 e) refl
 
@@ -155,177 +153,178 @@ module _ (m : Part) (p count : ℕ) (rows : List Row) (tree : Walks m p 1 count 
   unfolding whole_group
   nth_walk id n h = let t = nth_at id n h in walk_of t.within t.ends
 
-  nth_behind : (id n : ℕ) → n < length (groups id rows) → p ≤ (whole_group (get_or (groups id rows) n no_group)).inside
-  unfolding whole_group
-  nth_behind id n h = omega (arith, (nth_at id n h).behind)
-
   route_members : length (trace_routes rows) ≡ 1
       → direct_in (rows_in (walk m (counted MQGACF_TRACE_ROUTE 0 rows).group.inside 2 (counted MQGACF_TRACE_ROUTE 0 rows).group.members)) ≡ direct_members (trace_routes rows)
   unfolding counted
   route_members e = ap (λ (w : Result Walked). direct_in (rows_in w)) (nth_walk MQGACF_TRACE_ROUTE 0 (omega arith)) ∙ sym (one_group (trace_routes rows) e)
 
-  traced-unless : (n : ℕ) (b : Bool) (k q : ℕ) (r : Result Trace) → traced n m (unless b (refused k q) r) ≡ unless b (stop k q) (traced n m r)
-  traced-unless n true k q r = refl
-  traced-unless n false k q r = refl
+  then_unless : {A B : Type 0} (b : Bool) (k q : ℕ) (x : Result A) (f : A → Result B) → and_then (unless b (refused k q) x) f ≡ unless b (refused k q) (and_then x f)
+  then_unless true k q x f = refl
+  then_unless false k q x f = refl
 
   -- 8, as the meaning has it
   members_read : (sheet : List ℕ) (n : ℕ) (members : List Row)
-      → traced n m (read_members sheet m rows members) ≡ attributes_by sheet m members (counted MQGACF_ACTIVITY n rows).group (lying m)
+      → and_then (read_members sheet m rows members) (λ t. accepted (traced n m t)) ≡ attributes_by sheet m members (counted MQGACF_ACTIVITY n rows).group (lying m)
   unfolding read_members attributes_by
-  members_read sheet n members = traced-unless n (each_once sheet members && in_range (values_at m (places_of sheet members))) bad_attribute 0 _
+  members_read sheet n members = then_unless (each_once sheet members && in_range (values_at m (places_of sheet members))) bad_attribute 0 _ _
 
   -- 6, 7, 8, as the meaning has them
   pub rows_read : (sheet : List ℕ) (n : ℕ)
-      → traced n m (read_rows sheet m rows) ≡ judged_in sheet m (counted MQGACF_TRACE_ROUTE 0 rows) (counted MQGACF_ACTIVITY n rows).group
+      → and_then (read_rows sheet m rows) (λ t. accepted (traced n m t)) ≡ judged_in sheet m (counted MQGACF_TRACE_ROUTE 0 rows) (counted MQGACF_ACTIVITY n rows).group
   unfolding read_rows judged_in counted
   rows_read sheet n =
-      traced-unless n (trace_header m) no_trace_header 0 _
-      ∙ ap (unless (trace_header m) (stop no_trace_header 0))
-      (traced-unless n (eqb (length (trace_routes rows)) 1) no_trace_route 0 _ ∙ go (eqb (length (trace_routes rows)) 1) refl)
+      then_unless (trace_header m) no_trace_header 0 _ _
+      ∙ ap (unless (trace_header m) (refused no_trace_header 0))
+      (then_unless (eqb (length (trace_routes rows)) 1) no_trace_route 0 _ _ ∙ go (eqb (length (trace_routes rows)) 1) refl)
     where
       go : (b : Bool) → eqb (length (trace_routes rows)) 1 ≡ b
-          → unless b (stop no_trace_route 0) (traced n m (read_members sheet m rows (direct_members (trace_routes rows))))
-          ≡ unless b (stop no_trace_route 0)
+          → unless b (refused no_trace_route 0) (and_then (read_members sheet m rows (direct_members (trace_routes rows))) (λ t. accepted (traced n m t)))
+          ≡ unless b (refused no_trace_route 0)
           (attributes_in sheet m (counted MQGACF_TRACE_ROUTE 0 rows).group.inside (counted MQGACF_TRACE_ROUTE 0 rows).group.members (counted MQGACF_ACTIVITY n rows).group (lying m))
       go true e = members_read sheet n (direct_members (trace_routes rows)) ∙ rw (route_members (eqb-true (length (trace_routes rows)) 1 e)) refl
       go false e = refl
 
 -- WHAT A SURVEY TELLS of the walk that it is of
-record Told (n : ℕ) (v : Result Walked) (s : Surveyed) (q : ℕ) : Type 0 where
+record Told (n : ℕ) (v : Result Walked) (s : Tops) : Type 0 where
   pub rows : List Row
-  pub over : v ≡ walked rows q
+  pub over : v ≡ walked rows s.behind
   pub routes : s.routes ≡ counted MQGACF_TRACE_ROUTE 0 rows
   pub activities : s.activities ≡ counted MQGACF_ACTIVITY n rows
 
-told : (n : ℕ) (v : Result Walked) (s : Surveyed) (q : ℕ) → s ≡ surveyed n v → s.ended ≡ accepted q → Told n v s q
-told n (accepted w) s q e f =
-    let g : ◌≡◌ {A = Result ℕ} (accepted w.next) (accepted q) = sym (ap (λ (x : Surveyed). x.ended) e) ∙ f in
-    let h : w.next ≡ q = cc in
+told : (n : ℕ) (v : Result Walked) (s : Tops) → accepted s ≡ surveyed n v → Told n v s
+told n v s e =
+    let f = then_accepted v (λ w. accepted (tops_of n w)) s (sym e) in
+    let g : tops_of n f.0 ≡ s = cc f.2 in
     record {
-      rows = w.rows;
-      over = ap (walked w.rows) h;
-      routes = ap (λ (x : Surveyed). x.routes) e;
-      activities = ap (λ (x : Surveyed). x.activities) e;
+      rows = f.0.rows;
+      over = f.1 ∙ ap (λ (x : Tops). walked f.0.rows x.behind) g;
+      routes = sym (ap (λ (x : Tops). x.routes) g);
+      activities = sym (ap (λ (x : Tops). x.activities) g);
     }
-told n (refused k p) s q e f =
-    let g : ◌≡◌ {A = Result ℕ} (refused k p) (accepted q) = sym (ap (λ (x : Surveyed). x.ended) e) ∙ f in
-    absurd (clash (cc))
-
-told_refused : (n : ℕ) (v : Result Walked) (s : Surveyed) (k q : ℕ) → s ≡ surveyed n v → s.ended ≡ refused k q → v ≡ refused k q
-told_refused n (accepted w) s k q e f =
-    let g : ◌≡◌ {A = Result ℕ} (accepted w.next) (refused k q) = sym (ap (λ (x : Surveyed). x.ended) e) ∙ f in
-    absurd (clash (cc))
-told_refused n (refused k' p) s k q e f =
-    let g : ◌≡◌ {A = Result ℕ} (refused k' p) (refused k q) = sym (ap (λ (x : Surveyed). x.ended) e) ∙ f in
-    cc
 
 -- READ, by the tests that come first
 module _ (tm : Terms) (buf : List ℕ) (len n : ℕ) where
-  pub trace_unsheeted : sheet_ok tm.sheet ≡ false → stop bad_sheet 0 ≡ traced_by n tm buf len
+  pub trace_unsheeted : sheet_ok tm.sheet ≡ false → refused bad_sheet 0 ≡ traced_by n tm buf len
   unfolding read_trace
   trace_unsheeted e = rw e refl
 
   module _ (ok : sheet_ok tm.sheet ≡ true) where
-    trace_unscanned : (k q : ℕ) → scan tm.layout buf len ≡ refused k q → stop k q ≡ traced_by n tm buf len
+    trace_unscanned : (k q : ℕ) → scan tm.layout buf len ≡ refused k q → refused k q ≡ traced_by n tm buf len
     unfolding read_trace
     trace_unscanned k q e = rw (ok, e) refl
 
-    pub trace_unopened : (k q : ℕ) → opened tm.layout buf len ≡ refused k q → stop k q ≡ traced_by n tm buf len
-    trace_unopened k q e = trace_unscanned k q (scan_opened tm.layout buf len ∙ rw e refl)
+    pub trace_unopened : (k q : ℕ) → refused k q ≡ opened tm.layout buf len → refused k q ≡ traced_by n tm buf len
+    trace_unopened k q e = trace_unscanned k q (scan_opened tm.layout buf len ∙ rw (← e) refl)
 
--- WHAT THE TESTS before the structures have shown, and the survey of these
-pub record Gone (l : Layout) (sheet buf : List ℕ) (len : ℕ) (part : PartIn) (n count : ℕ) (s : Surveyed) : Type 0 where
-  pub begun : Begun l sheet buf len part count
-  pub surveys : s ≡ surveyed n (walk (part_of buf part.end) (part.start + 36) 1 count)
+-- WHAT THE TESTS before the structures have shown: the sheet's, those of the part, and its header's, which has this count
+pub record Begun (tm : Terms) (buf : List ℕ) (len : ℕ) (o : Opening) : Type 0 where
+  pub sheeted : sheet_ok tm.sheet ≡ true
+  pub opens : accepted (opening_of buf o) ≡ opened tm.layout buf len
 
-module _ {l : Layout} {sheet buf : List ℕ} {len : ℕ} {part : PartIn} {n count : ℕ} {s : Surveyed} (g : Gone l sheet buf len part n count s) where
+module _ {tm : Terms} {buf : List ℕ} {len : ℕ} {o : Opening} (g : Begun tm buf len o) where
   abbrev M : Part
-  M = part_at buf part
+  M = part_at buf o.part
 
-  abbrev tm : Terms
-  tm = terms_of l sheet
+  start : Opened-as tm.layout buf len (opening_of buf o)
+  start = begun tm.layout buf len _ (sym g.opens)
 
   -- the part is the message's, and lies in it
-  same : part_in l buf len ≡ M
-  same = (sized l buf len M (begun l buf len _ g.begun.opens).lies).0
+  same : part_in tm.layout buf len ≡ M
+  same = (sized tm.layout buf len M start.lies).0
 
-  pub lies : Reaches buf part
-  lies = reaches l buf len part (begun l buf len _ g.begun.opens).lies
+  pub lies : Reaches buf o.part
+  lies = reaches tm.layout buf len o.part (sym start.lies)
 
-  scanned : scan l buf len ≡ and_then (walk (part_of buf part.end) (part.start + 36) 1 count) (closed part.end)
+  -- what is gone over: the bytes up to the part's end
+  abbrev gone : Result Walked
+  gone = walk (whole (take o.part.end buf)) (o.part.start + 36) 1 o.count
+
+  scanned : scan tm.layout buf len ≡ and_then gone (closed o.part.end)
   scanned =
-      scan_opened l buf len ∙ ap (λ (x : Result Opened). and_then x (λ o. structures_of o.part o.count)) g.begun.opens
-      ∙ ap (λ (x : Result Walked). and_then x (closed part.end)) (walk_part buf part (part.start + 36) 1 count)
+      scan_opened tm.layout buf len ∙ ap (λ (x : Result Opened). and_then x (λ y. structures_of y.part y.count)) (sym g.opens)
+      ∙ ap (λ (x : Result Walked). and_then x (closed o.part.end)) (walk_part buf o.part lies.there (o.part.start + 36) 1 o.count)
 
-  pub trace_halt : (k q : ℕ) → s.ended ≡ refused k q → stop k q ≡ traced_by n tm buf len
-  trace_halt k q f =
-      trace_unscanned tm buf len n g.begun.sheeted k q (scanned ∙ rw (told_refused n (walk (part_of buf part.end) (part.start + 36) 1 count) s k q g.surveys f) refl)
+  pub trace_halt : (n k q : ℕ) → refused k q ≡ surveyed n gone → refused k q ≡ traced_by n tm buf len
+  trace_halt n k q e = trace_unscanned tm buf len n g.sheeted k q (scanned ∙ rw (then_refused gone (tops_of n) k q (sym e)) refl)
 
-  module _ (q : ℕ) (f : s.ended ≡ accepted q) where
-    t : Told n (walk (part_of buf part.end) (part.start + 36) 1 count) s q
-    t = told n (walk (part_of buf part.end) (part.start + 36) 1 count) s q g.surveys f
+  module _ (n : ℕ) (s : Tops) (e : accepted s ≡ surveyed n gone) where
+    t : Told n gone s
+    t = told n gone s e
 
-    pub trace_left : (q ≡ part.end → ⊥) → stop left_over q ≡ traced_by n tm buf len
+    pub trace_left : (s.behind ≡ o.part.end → ⊥) → refused left_over s.behind ≡ traced_by n tm buf len
     unfolding closed
-    trace_left d = trace_unscanned tm buf len n g.begun.sheeted left_over q (scanned ∙ rw (t.over, ne_eqb q part.end d) refl)
+    trace_left d = trace_unscanned tm buf len n g.sheeted left_over s.behind (scanned ∙ rw (t.over, ne_eqb s.behind o.part.end d) refl)
 
-    module _ (z : q ≡ part.end) where
-      tree : Walks M (part.start + 36) 1 count t.rows part.end
-      tree = walks_as refl refl z (walks M (part.start + 36) 1 count t.rows q (walk_part buf part (part.start + 36) 1 count ∙ t.over))
+    module _ (z : s.behind ≡ o.part.end) where
+      tree : Walks M (o.part.start + 36) 1 o.count t.rows o.part.end
+      tree = walks_as refl refl z (walks M (o.part.start + 36) 1 o.count t.rows s.behind (walk_part buf o.part lies.there (o.part.start + 36) 1 o.count ∙ t.over))
 
-      whole_rows : scan l buf len ≡ accepted t.rows
+      whole_rows : scan tm.layout buf len ≡ accepted t.rows
       unfolding closed
-      whole_rows = scanned ∙ ap (λ (x : Result Walked). and_then x (closed part.end)) t.over ∙ rw (eq-eqb q part.end z) refl
+      whole_rows = scanned ∙ ap (λ (x : Result Walked). and_then x (closed o.part.end)) t.over ∙ rw (eq-eqb s.behind o.part.end z) refl
 
-      whole-read : read_trace tm buf len ≡ read_rows sheet M t.rows
+      whole-read : read_trace tm buf len ≡ read_rows tm.sheet M t.rows
       unfolding read_trace
       whole-read =
-          rw g.begun.sheeted (ap (λ (x : Result (List Row)). and_then x (read_rows sheet (part_in l buf len))) whole_rows ∙ ap (λ (x : Part). read_rows sheet x t.rows) same)
+          rw g.sheeted (ap (λ (x : Result (List Row)). and_then x (read_rows tm.sheet (part_in tm.layout buf len))) whole_rows ∙ ap (λ (x : Part). read_rows tm.sheet x t.rows) same)
 
-      pub trace_whole : judged_in sheet M s.routes s.activities.group ≡ traced_by n tm buf len
+      pub trace_whole : judged_in tm.sheet M s.routes s.activities.group ≡ traced_by n tm buf len
       trace_whole =
-          ap (λ (x : Counted). judged_in sheet M x s.activities.group) t.routes
-          ∙ ap (λ (x : Counted). judged_in sheet M (counted MQGACF_TRACE_ROUTE 0 t.rows) x.group) t.activities
-          ∙ sym (rows_read M (part.start + 36) count t.rows tree sheet n) ∙ ap (traced n M) (sym whole-read)
-          ∙ ap (λ (x : Part). traced n x (read_trace tm buf len)) (sym same)
+          ap (λ (x : Counted). judged_in tm.sheet M x s.activities.group) t.routes
+          ∙ ap (λ (x : Counted). judged_in tm.sheet M (counted MQGACF_TRACE_ROUTE 0 t.rows) x.group) t.activities
+          ∙ sym (rows_read M (o.part.start + 36) o.count t.rows tree tm.sheet n) ∙ ap (λ (x : Result Trace). and_then x (λ y. accepted (traced n M y))) (sym whole-read)
+          ∙ ap (λ (x : Part). and_then (read_trace tm buf len) (λ y. accepted (traced n x y))) (sym same)
 
       -- the survey went over the members of the one TraceRoute group
-      pub route_within : s.routes.count ≡ 1 → Within buf part.end s.routes.group.inside s.routes.group.members
+      route_within : s.routes.count ≡ 1 → is_sound (walk (whole (take o.part.end buf)) s.routes.group.inside 2 s.routes.group.members) ≡ true
       unfolding counted
       route_within =
-          subst (λ (x : Counted). x.count ≡ 1 → Within buf part.end x.group.inside x.group.members) (sym t.routes)
+          subst (λ (x : Counted). x.count ≡ 1 → is_sound (walk (whole (take o.part.end buf)) x.group.inside 2 x.group.members) ≡ true) (sym t.routes)
           (λ i.
           let first : 0 < length (trace_routes t.rows) = omega arith in
-          record {
-            known = record {
-              there = lies.there;
-              most = lies.most;
-              sound = ap is_sound (sym (walk_part buf part _ 2 _) ∙ nth_walk M (part.start + 36) count t.rows tree MQGACF_TRACE_ROUTE 0 first);
-            };
-            behind = omega (arith, nth_behind M (part.start + 36) count t.rows tree MQGACF_TRACE_ROUTE 0 first);
-          })
+          ap is_sound (sym (walk_part buf o.part lies.there _ 2 _) ∙ nth_walk M (o.part.start + 36) o.count t.rows tree MQGACF_TRACE_ROUTE 0 first))
+
+      pub headed : Headed buf o s.routes
+      headed = record {
+        there = lies.there;
+        least = lies.room;
+        sound = start.sound;
+        read = sym start.counts ∙ num_part buf o.part.end (o.part.start + 32) (omega (arith, lies.room));
+        within = route_within;
+      }
 
 -- no attribute is read with the part's start
-pub attributes_from : (sheet msg : List ℕ) (part : PartIn) (inside members : ℕ) (activity : Group)
-    → attributes_in sheet (part_of msg part.end) inside members activity part ≡ attributes_in sheet (part_at msg part) inside members activity part
+pub attributes_from : (sheet msg : List ℕ) (part : PartIn) (inside members : ℕ) (activity : Group) → part.end ≤ length msg
+    → attributes_in sheet (whole (take part.end msg)) inside members activity part ≡ attributes_in sheet (part_at msg part) inside members activity part
 unfolding attributes_by values_at value_at
-attributes_from sheet msg part inside members activity = rw (walk_part msg part inside 2 members) refl
+attributes_from sheet msg part inside members activity h = rw (walk_part msg part h inside 2 members) refl
 
 -- WHAT THE ANSWER TELLS of what Read gives
-pub traced_refused : (n : ℕ) (m : Part) (x : Result Trace) (o : Readout) (k p : ℕ) → o ≡ traced n m x → o.answer ≡ refused k p → x ≡ refused k p
-traced_refused n m (accepted t) o k p h f =
-    let e : ◌≡◌ {A = Result Present} (accepted present) (refused k p) = sym (ap (λ (y : Readout). y.answer) h) ∙ f in
-    absurd (clash (cc))
-traced_refused n m (refused k' p') o k p h f =
-    let e : ◌≡◌ {A = Result Present} (refused k' p') (refused k p) = sym (ap (λ (y : Readout). y.answer) h) ∙ f in
-    cc
+same_trace : {x : Result Trace} (t : Trace) (places values : List ℕ) → x ≡ accepted t → t.places ≡ places → t.values ≡ values
+    → x ≡ accepted (record { rows = t.rows; places = places; values = values })
+same_trace t places values e p v = rw (← p, ← v) e
 
-pub traced-found : (n : ℕ) (m : Part) (x : Result Trace) (o : Readout) → o ≡ traced n m x → o.answer ≡ accepted present
-    → (rows : List Row) × (x ≡ accepted (record { rows = rows; places = o.places; values = o.values })) × (o.part ≡ lying m)
-traced-found n m (accepted t) o h f =
-    let p : o.places ≡ t.places = ap (λ (y : Readout). y.places) h in
-    let v : o.values ≡ t.values = ap (λ (y : Readout). y.values) h in
-    (t.rows, rw (p, v) refl, ap (λ (y : Readout). y.part) h)
-traced-found n m (refused k p) o h f =
-    let e : ◌≡◌ {A = Result Present} (refused k p) (accepted present) = sym (ap (λ (y : Readout). y.answer) h) ∙ f in
-    absurd (clash (cc))
+module _ (n : ℕ) (tm : Terms) (buf : List ℕ) (len : ℕ) where
+  pub traced_refused : (k p : ℕ) → refused k p ≡ traced_by n tm buf len → read_trace tm buf len ≡ refused k p
+  traced_refused k p e = then_refused (read_trace tm buf len) (traced n (part_in tm.layout buf len)) k p (sym e)
+
+  -- the rows of the trace that was found
+  pub record Found (o : Traced) : Type 0 where
+    pub rows : List Row
+    pub read : read_trace tm buf len ≡ accepted (record { rows = rows; places = o.places; values = o.values })
+    pub activity : o.activity ≡ (counted MQGACF_ACTIVITY n rows).group
+    pub part : o.part ≡ lying (part_in tm.layout buf len)
+
+  pub found : (o : Traced) → accepted o ≡ traced_by n tm buf len → Found o
+  found o e =
+      let m : Part = part_in tm.layout buf len in
+      let f = then_accepted (read_trace tm buf len) (λ x. accepted (traced n m x)) o (sym e) in
+      let g : traced n m f.0 ≡ o = cc f.2 in
+      let p : f.0.places ≡ o.places = ap (λ (x : Traced). x.places) g in
+      let v : f.0.values ≡ o.values = ap (λ (x : Traced). x.values) g in
+      record {
+        rows = f.0.rows;
+        read = same_trace f.0 o.places o.values f.1 p v;
+        activity = sym (ap (λ (x : Traced). x.activity) g);
+        part = sym (ap (λ (x : Traced). x.part) g);
+      }

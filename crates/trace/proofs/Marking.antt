@@ -1,14 +1,18 @@
 -- The marks of the attributes, one direct member after the other; what they come to is what the meaning asks.
 use mathlib.Core.Path.{◌≡◌, refl, sym, ap, ◌∙◌, subst}
-use mathlib.Core.Bool.{Bool, true, false, cond, ◌&&◌}
+use mathlib.Core.Bool.{Bool, true, false, cond}
 use mathlib.Core.List.{List, [], ◌∷◌, ◌++◌, map}
-use Prim.Native.Nat.{ℕ, ◌+◌, ◌-◌, ◌≤◌, ◌<◌}
+use Prim.Native.Nat.{ℕ, ◌+◌, ◌<◌}
 use native.Mathlib.Omega.{arith}
-use lib.ListN.{length, get_or, drop, length-map}
+use lib.ListN.{length, get_or, length-map}
+use Rattle.std.proofs.Common.{take, set, replicate, length-set, get_or-set_same, get_or-set_other, ◌≤◌}
+use borrow.Author.Tests.{eqb-true, eqb-false}
 use lib.Seq.{ext_get_or}
-use lib.Dec.{ltb, eqb}
-use borrow.Author.Tests.{lt-ltb, le-ltb, ne_eqb}
-use Rattle.meaning.specs.Bytes.{Part, part_of, number}
+use Rattle.std.proofs.lemmas.List.{get_or-map, get_or-replicate, take_all}
+use Rattle.std.specs.Prelude.{Some, None}
+use Rattle.std.specs.List.{list_all}
+use lib.Dec.{eqb}
+use Rattle.meaning.specs.Bytes.{Part, whole, number}
 use Rattle.meaning.specs.Names.{MQCFT_INTEGER}
 use Rattle.meaning.specs.Answer.{Result, accepted, refused, and_then, cons_if}
 use Rattle.meaning.specs.Structure.{Row}
@@ -18,96 +22,84 @@ use Rattle.meaning.proofs.Tests.{clash, and_true}
 use Rattle.meaning.proofs.Structures.{row_at_lem}
 use Rattle.meaning.proofs.Walks.{walks, walks_depth, In, here, there}
 use Rattle.meaning.proofs.Fuel.{walk_zero}
-use Rattle.meaning.proofs.Parts.{num_part, row_kind, row_parameter}
 use Rattle.meaning.proofs.Attributes.{get_d_map, once_at}
 use Rattle.meaning.proofs.Tops.{direct_next}
 use Rattle.trace.specs.Passing.{crossed, behind_of}
-use Rattle.trace.specs.Marks.{onto, noted, noted_in, mark_from, Marked, all_found, InReach}
-use Rattle.meaning.proofs.Lists.{rest_none, rest_next}
+use Rattle.trace.specs.Marks.{onto, noted, noted_in, mark_from, Marked, is_at, place_in, all_places}
+use Rattle.trace.specs.declared.members.Mark.{Mark}
+use Rattle.trace.specs.declared.members.Mark.TheVariants.{Absent, Fault, At}
 use Rattle.trace.proofs.Turns.{Over, walk_over}
 use Rattle.trace.proofs.Skipping.{behind_over}
 
--- ALL FOUND, one mark after the other
-pub found_none : (l : List ℕ) (k : ℕ) → length l ≤ k → all_found (drop k l) ≡ true
-unfolding all_found
-found_none l k h = ap all_found (rest_none l k h)
-
-module _ (l : List ℕ) (k : ℕ) (h : k < length l) where
-  pub found_stop : get_or l k 0 ≤ 1 → all_found (drop k l) ≡ false
-  unfolding all_found
-  found_stop e = ap all_found (rest_next l k h) ∙ rw (le-ltb 1 (get_or l k 0) e) refl
-
-  pub found_next : 1 < get_or l k 0 → all_found (drop k l) ≡ all_found (drop (k + 1) l)
-  unfolding all_found
-  found_next e = ap all_found (rest_next l k h) ∙ rw (lt-ltb 1 (get_or l k 0) e) refl
-
 -- THE VALUES that were read
-pub values_read : (msg : List ℕ) (len : ℕ) (places v : List ℕ) → length places ≡ 8 → length v ≡ 8 → InReach len places
-    → ((j : ℕ) → j < 8 → get_or v j 0 ≡ number msg (get_or places j 0 + 12)) → v ≡ values_at (part_of msg len) places
+pub values_read : (s places v : List ℕ) → length places ≡ 8 → length v ≡ 8 → ((j : ℕ) → j < 8 → get_or v j 0 ≡ number s (get_or places j 0 + 12)) → v ≡ values_at (whole s) places
 unfolding values_at value_at
-values_read msg len places v eight n reach h =
-    ext_get_or 0 v (map (value_at (part_of msg len)) places) (n ∙ sym (length-map places (value_at (part_of msg len)) ∙ eight))
-    (λ j i. h j (omega arith) ∙ sym (num_part msg len (get_or places j 0 + 12) (omega (arith, reach j (omega arith))))
-    ∙ sym (get_d_map (value_at (part_of msg len)) places j (omega arith)))
+values_read s places v eight n h =
+    ext_get_or 0 v (map (value_at (whole s)) places) (n ∙ sym (length-map places (value_at (whole s)) ∙ eight))
+    (λ j i. h j (omega arith) ∙ sym (get_d_map (value_at (whole s)) places j (omega arith)))
+
+-- THE MARKS one after the other: up to k they are as f has them, from there on as they were
+abbrev pub MarkedTo : (ℕ → Mark) → List Mark → List Mark → ℕ → Type 0
+MarkedTo f was now k =
+    (length now ≡ 8) × ((j : ℕ) → j < k → get_or now j Absent ≡ f j) × ((j : ℕ) → k ≤ j → get_or now j Absent ≡ get_or was j Absent)
+
+pub none_marked : (j : ℕ) → j < 8 → get_or (replicate 8 Absent) j Absent ≡ Absent
+none_marked j h = get_or-replicate 8 j Absent Absent h
+
+pub marked_next : (f : ℕ → Mark) (was now : List Mark) (k : ℕ) (x : Mark) → k < 8 → x ≡ f k → MarkedTo f was now k → MarkedTo f was (set now k x) (k + 1)
+marked_next f was now k x h e m =
+    (simp length-set m.0, λ j i. go j i (eqb j k) refl, λ j i. get_or-set_other now k j x Absent (λ z. omega arith) ∙ m.2 j (omega arith))
+  where
+    go : (j : ℕ) → j < k + 1 → (b : Bool) → eqb j k ≡ b → get_or (set now k x) j Absent ≡ f j
+    go j i true q = let z = eqb-true j k q in ap (λ (y : ℕ). get_or (set now k x) y Absent) z ∙ get_or-set_same now k x Absent (omega (arith, m.0)) ∙ e ∙ ap f (sym z)
+    go j i false q = let z = eqb-false j k q in get_or-set_other now k j x Absent z ∙ m.1 j (omega arith)
+
+-- the places, when all eight marks are places
+pub all_places_at : (marks : List Mark) (places : List ℕ) (k : ℕ) → length marks ≡ 8 → length marks ≤ k → length places ≡ 8 → list_all is_at (take k marks) ≡ true
+    → ((j : ℕ) → j < 8 → get_or places j 0 ≡ place_in (get_or marks j Absent)) → Some places ≡ all_places marks
+all_places_at marks places k eight m n t h =
+    let f : list_all is_at marks ≡ true = ap (list_all is_at) (sym (take_all k marks m)) ∙ t in
+    let g : places ≡ map place_in marks =
+    ext_get_or 0 places (map place_in marks) (n ∙ sym (length-map marks place_in ∙ eight)) (λ j i. h j (omega arith) ∙ sym (get_or-map place_in marks j Absent 0 (omega arith))) in
+    rw (f, g) refl
 
 -- THE MARK of an identifier after members is its mark after those of them that have the identifier
-onto_all : ℕ → List Row → ℕ
+onto_all : Mark → List Row → Mark
 onto_all mark [] = mark
 onto_all mark (r ∷ rs) = onto_all (onto mark r.kind r.place) rs
 
-noted-named : (id mark : ℕ) (rows : List Row) → noted_in id mark rows ≡ onto_all mark (named id rows)
+noted-named : (id : ℕ) (mark : Mark) (rows : List Row) → noted_in id mark rows ≡ onto_all mark (named id rows)
 unfolding noted_in noted named onto_all
 noted-named id mark [] = refl
 noted-named id mark (r ∷ rs) = go (eqb r.parameter id) (λ k. noted-named id k rs)
   where
-    go : (b : Bool) → ((k : ℕ) → noted_in id k rs ≡ onto_all k (named id rs)) → noted_in id (cond b (onto mark r.kind r.place) mark) rs ≡ onto_all mark (cons_if b r (named id rs))
+    go : (b : Bool) → ((k : Mark) → noted_in id k rs ≡ onto_all k (named id rs)) → noted_in id (cond b (onto mark r.kind r.place) mark) rs ≡ onto_all mark (cons_if b r (named id rs))
     go true ih = ih (onto mark r.kind r.place)
     go false ih = ih mark
 
--- a mark that is at fault stays so
-onto_second : (mark kind place : ℕ) → 0 < mark → onto mark kind place ≡ 1
-onto_second mark kind place h = rw (ne_eqb mark 0 (λ q. omega arith)) (go (eqb kind MQCFT_INTEGER))
-  where
-    go : (b : Bool) → cond (b && false) place 1 ≡ 1
-    go true = refl
-    go false = refl
-
-fault_stays : (rows : List Row) → onto_all 1 rows ≡ 1
-unfolding onto_all
+fault_stays : (rows : List Row) → onto_all Fault rows ≡ Fault
+unfolding onto_all onto
 fault_stays [] = refl
-fault_stays (r ∷ rs) = ap (λ (k : ℕ). onto_all k rs) (onto_second 1 r.kind r.place (omega arith)) ∙ fault_stays rs
+fault_stays (r ∷ rs) = fault_stays rs
 
-onto_first : (kind place : ℕ) → 1 < place → (ltb 1 (onto 0 kind place) ≡ eqb kind MQCFT_INTEGER) × (eqb kind MQCFT_INTEGER ≡ true → onto 0 kind place ≡ place)
-onto_first kind place h = go (eqb kind MQCFT_INTEGER)
+-- exactly one and an integer: the mark is its place; otherwise it is no place
+mark_once : (rows : List Row) → (is_at (onto_all Absent rows) ≡ one_integer rows) × (one_integer rows ≡ true → onto_all Absent rows ≡ At (place_of_first rows))
+unfolding onto_all onto one_integer place_of_first
+mark_once [] = (refl, λ e. absurd (clash (cc)))
+mark_once (r ∷ []) = go (eqb r.kind MQCFT_INTEGER)
   where
-    go : (b : Bool) → (ltb 1 (cond (b && true) place 1) ≡ b) × (b ≡ true → cond (b && true) place 1 ≡ place)
-    go true = (lt-ltb 1 place h, λ e. refl)
+    go : (b : Bool) → (is_at (cond b (At r.place) Fault) ≡ b) × (b ≡ true → cond b (At r.place) Fault ≡ At r.place)
+    go true = (refl, λ e. refl)
     go false = (refl, λ e. absurd (clash (cc)))
-
-positive : (kind place : ℕ) → 1 < place → 0 < onto 0 kind place
-positive kind place h = go (eqb kind MQCFT_INTEGER)
+mark_once (r ∷ q ∷ rs) = (ap is_at (go (eqb r.kind MQCFT_INTEGER)), λ z. absurd (clash (cc)))
   where
-    go : (b : Bool) → 0 < cond (b && true) place 1
-    go true = omega arith
-    go false = omega arith
+    go : (b : Bool) → onto_all (onto (cond b (At r.place) Fault) q.kind q.place) rs ≡ Fault
+    go true = fault_stays rs
+    go false = fault_stays rs
 
 -- what holds of every row
 abbrev pub Every : (Row → Type 0) → List Row → Type 0
 Every P rows = (r : Row) → In r rows → P r
-
--- rows that stand behind the place 1
-abbrev pub Placed : List Row → Type 0
-Placed rows = Every (λ r. 1 < r.place) rows
-
--- exactly one and an integer: the mark is its place; otherwise it is no place
-mark_once : (rows : List Row) → Placed rows → (ltb 1 (onto_all 0 rows) ≡ one_integer rows) × (one_integer rows ≡ true → onto_all 0 rows ≡ place_of_first rows)
-unfolding onto_all one_integer place_of_first
-mark_once [] h = (refl, λ e. absurd (clash (cc)))
-mark_once (r ∷ []) h = onto_first r.kind r.place (h r (here refl))
-mark_once (r ∷ q ∷ rs) h =
-    let first : ℕ = onto 0 r.kind r.place in
-    let e : onto_all (onto first q.kind q.place) rs ≡ 1 = ap (λ (k : ℕ). onto_all k rs) (onto_second first q.kind q.place (positive r.kind r.place (h r (here refl)))) ∙ fault_stays rs in
-    (ap (ltb 1) e, λ z. absurd (clash (cc)))
 
 pub every_if : (P : Row → Type 0) (b : Bool) (x : Row) (xs rest : List Row) → Every P (x ∷ xs) → Every P rest → Every P (cons_if b x rest)
 every_if P true x xs rest h ih r (here e) = h r (here e)
@@ -130,87 +122,97 @@ once_place P [] e h = absurd (clash (cc))
 once_place P (r ∷ []) e h = h r (here refl)
 once_place P (r ∷ q ∷ rs) e h = absurd (clash (cc))
 
-module _ (rows : List Row) (placed : Placed rows) where
-  pub mark_test : (id : ℕ) → ltb 1 (noted_in id 0 rows) ≡ one_integer (named id rows)
-  mark_test id = ap (ltb 1) (noted-named id 0 rows) ∙ (mark_once (named id rows) (every_named (λ r. 1 < r.place) id rows placed)).0
+module _ (rows : List Row) where
+  mark_test : (id : ℕ) → is_at (noted_in id Absent rows) ≡ one_integer (named id rows)
+  mark_test id = ap is_at (noted-named id Absent rows) ∙ (mark_once (named id rows)).0
 
-  pub mark_place : (id : ℕ) → one_integer (named id rows) ≡ true → noted_in id 0 rows ≡ place_of_first (named id rows)
-  mark_place id e = noted-named id 0 rows ∙ (mark_once (named id rows) (every_named (λ r. 1 < r.place) id rows placed)).1 e
+  mark_place : (id : ℕ) → one_integer (named id rows) ≡ true → noted_in id Absent rows ≡ At (place_of_first (named id rows))
+  mark_place id e = noted-named id Absent rows ∙ (mark_once (named id rows)).1 e
 
   -- EACH ONCE: all marks are places, and then they are the meaning's
-  pub marks_once : (sheet : List ℕ) → all_found (map (λ id. noted_in id 0 rows) sheet) ≡ each_once sheet rows
-  unfolding all_found each_once
+  marks_once : (sheet : List ℕ) → list_all is_at (map (λ id. noted_in id Absent rows) sheet) ≡ each_once sheet rows
+  unfolding each_once
   marks_once [] = refl
   marks_once (id ∷ ids) = rw (mark_test id, marks_once ids) refl
 
-  pub marks_places : (sheet : List ℕ) → each_once sheet rows ≡ true → map (λ id. noted_in id 0 rows) sheet ≡ places_of sheet rows
+  marks_places : (sheet : List ℕ) → each_once sheet rows ≡ true → map place_in (map (λ id. noted_in id Absent rows) sheet) ≡ places_of sheet rows
   unfolding each_once places_of
   marks_places [] e = refl
   marks_places (id ∷ ids) e =
       let f = and_true (one_integer (named id rows)) (each_once ids rows) e in
       rw (mark_place id f.0, marks_places ids f.1) refl
 
+  -- what holds of every member's place holds of the meaning's places
+  pub every_place : (P : ℕ → Type 0) → Every (λ r. P r.place) rows → (sheet : List ℕ) → each_once sheet rows ≡ true → (j : ℕ) → j < length sheet → P (get_or (places_of sheet rows) j 0)
+  unfolding places_of
+  every_place P every sheet once j h =
+      let id : ℕ = get_or sheet j 0 in
+      subst P (sym (get_d_map (λ id. place_of_first (named id rows)) sheet j h)) (once_place P (named id rows) (once_at sheet rows once j h) (every_named (λ r. P r.place) id rows every))
+
 -- MARKS AFTER A WALK, as a list
-mark_rows : (id : ℕ) (w : Result Walked) → mark_from id 0 w ≡ noted_in id 0 (direct_in (rows_in w))
+mark_rows : (id : ℕ) (w : Result Walked) → mark_from id Absent w ≡ noted_in id Absent (direct_in (rows_in w))
 unfolding noted_in direct_in
 mark_rows id (accepted w) = refl
 mark_rows id (refused k p) = refl
 
-module _ (sheet : List ℕ) (eight : length sheet ≡ 8) (w : Result Walked) (marks : List ℕ) (h : Marked sheet w marks) where
+module _ (sheet : List ℕ) (eight : length sheet ≡ 8) (w : Result Walked) (marks : List Mark) (h : Marked sheet w marks) where
   abbrev members : List Row
   members = direct_in (rows_in w)
 
-  marks_list : marks ≡ map (λ id. noted_in id 0 members) sheet
+  marks_list : marks ≡ map (λ id. noted_in id Absent members) sheet
   marks_list =
-      let f : ℕ → ℕ = λ id. noted_in id 0 members in
+      let f : ℕ → Mark = λ id. noted_in id Absent members in
       let n = h.eight in
-      ext_get_or 0 marks (map f sheet) (n ∙ sym (length-map sheet f ∙ eight))
-      (λ j i. h.each j (omega arith) ∙ mark_rows (get_or sheet j 0) w ∙ sym (get_d_map f sheet j (omega arith)))
+      ext_get_or Absent marks (map f sheet) (n ∙ sym (length-map sheet f ∙ eight))
+      (λ j i. h.each j (omega arith) ∙ mark_rows (get_or sheet j 0) w ∙ sym (get_or-map f sheet j 0 Absent (omega arith)))
 
-  module _ (placed : Placed members) where
-    pub found_once : all_found marks ≡ each_once sheet members
-    found_once = ap all_found marks_list ∙ marks_once members placed sheet
+  places_is : all_places marks ≡ cond (each_once sheet members) (Some (map place_in marks)) None
+  places_is = ap (λ (b : Bool). cond b (Some (map place_in marks)) None) (ap (list_all is_at) marks_list ∙ marks_once members sheet)
 
-    module _ (once : each_once sheet members ≡ true) where
-      pub found_places : marks ≡ places_of sheet members
-      found_places = marks_list ∙ marks_places members placed sheet once
+  pub found_none : None ≡ all_places marks → each_once sheet members ≡ false
+  found_none e = go (each_once sheet members) (e ∙ places_is)
+    where
+      go : (b : Bool) → None ≡ cond b (Some (map place_in marks)) None → b ≡ false
+      go true q = absurd (clash (cc))
+      go false q = refl
 
-      -- what holds of every member's place holds of the marks
-      pub found_every : (P : ℕ → Type 0) → Every (λ r. P r.place) members → (j : ℕ) → j < 8 → P (get_or marks j 0)
-      found_every P every j i =
-          let id : ℕ = get_or sheet j 0 in
-          let o = once_at sheet members once j (omega arith) in
-          subst P (sym (h.each j i ∙ mark_rows id w ∙ mark_place members placed id o)) (once_place P (named id members) o (every_named (λ r. P r.place) id members every))
+  pub found_some : (places : List ℕ) → Some places ≡ all_places marks → (each_once sheet members ≡ true) × (places ≡ places_of sheet members)
+  found_some places e = go (each_once sheet members) refl (e ∙ places_is)
+    where
+      go : (b : Bool) → each_once sheet members ≡ b → Some places ≡ cond b (Some (map place_in marks)) None → (each_once sheet members ≡ true) × (places ≡ places_of sheet members)
+      go true o q = let f : places ≡ map place_in marks = cc in (o, f ∙ ap (map place_in) marks_list ∙ marks_places members sheet o)
+      go false o q = absurd (clash (cc))
 
 -- ONE TURN over direct members
-pub mark_end : (m : Part) (p id mark : ℕ) → mark_from id mark (walk m p 2 0) ≡ mark
+pub mark_end : (m : Part) (p n id : ℕ) (mark : Mark) → n ≡ 0 → mark_from id mark (walk m p 2 n) ≡ mark
 unfolding direct_in noted_in
-mark_end m p id mark = rw (walk_zero m p 2) refl
+mark_end m p n id mark z = rw (z, walk_zero m p 2) refl
 
-module _ (m : Part) (p left : ℕ) (due : 0 < left) where
+module _ (m : Part) (p left left' : ℕ) (due : left ≡ left' + 1) where
   module _ (r : Row) (q : ℕ) (o : Over m p 2 r q) where
     pub next_direct : (y : Walked) → direct_in (r ∷ (o.inside ++ y.rows)) ≡ r ∷ direct_in y.rows
     next_direct y =
         direct_next r o.inside y.rows (sym (row_at_lem m p 2 r o.there).at_depth)
         (λ x i. walks_depth (walks m (p + r.size) 3 r.members o.inside q o.within) x i)
 
-    mark_next : (id mark : ℕ) → mark_from id mark (walk m p 2 left) ≡ mark_from id (noted id mark r.kind r.parameter r.place) (walk m q 2 (left - 1))
+    mark_next : (id : ℕ) (mark : Mark) → mark_from id mark (walk m p 2 left) ≡ mark_from id (noted id mark r.kind r.parameter r.place) (walk m q 2 left')
     unfolding noted_in
-    mark_next id mark = rw (walk_over m p 2 left due r q o) (go (walk m q 2 (left - 1)))
+    mark_next id mark = rw (walk_over m p 2 left left' due r q o) (go (walk m q 2 left'))
       where
         go : (w : Result Walked) → mark_from id mark (and_then w (λ y. walked (r ∷ (o.inside ++ y.rows)) y.next)) ≡ mark_from id (noted id mark r.kind r.parameter r.place) w
         go (accepted y) = rw (next_direct y) refl
         go (refused k x) = refl
 
 -- the same with the fields that were read, and the place behind
-pub mark_read : (s : List ℕ) (len p left q kind parameter : ℕ) → 0 < left → behind_of (crossed (part_of s len) p 2) ≡ accepted q → kind ≡ number s p
-    → parameter ≡ number s (p + 8) → (id mark : ℕ)
-    → mark_from id mark (walk (part_of s len) p 2 left) ≡ mark_from id (noted id mark kind parameter p) (walk (part_of s len) q 2 (left - 1))
-mark_read s len p left q kind parameter due b k j id mark =
-    let o = behind_over (part_of s len) p 2 q b in
+pub mark_read : (s : List ℕ) (p left left' q kind parameter : ℕ) → left ≡ left' + 1 → behind_of (crossed (whole s) p 2) ≡ accepted q → kind ≡ number s p
+    → parameter ≡ number s (p + 8) → (id : ℕ) (mark : Mark)
+    → mark_from id mark (walk (whole s) p 2 left) ≡ mark_from id (noted id mark kind parameter p) (walk (whole s) q 2 left')
+mark_read s p left left' q kind parameter due b k j id mark =
+    let o = behind_over (whole s) p 2 q b in
     let r : Row = o.0 in
-    let a : kind ≡ r.kind = k ∙ row_kind s len p 2 r o.1.there in
-    let e : parameter ≡ r.parameter = j ∙ row_parameter s len p 2 r o.1.there in
-    let f : p ≡ r.place = (row_at_lem (part_of s len) p 2 r o.1.there).at_place in
+    let at = row_at_lem (whole s) p 2 r o.1.there in
+    let a : kind ≡ r.kind = k ∙ at.at_kind in
+    let e : parameter ≡ r.parameter = j ∙ at.at_parameter in
+    let f : p ≡ r.place = at.at_place in
     let g : noted id mark r.kind r.parameter r.place ≡ noted id mark kind parameter p = cc in
-    mark_next (part_of s len) p left due r q o.1 id mark ∙ ap (λ (x : ℕ). mark_from id x (walk (part_of s len) q 2 (left - 1))) g
+    mark_next (whole s) p left left' due r q o.1 id mark ∙ ap (λ (x : Mark). mark_from id x (walk (whole s) q 2 left')) g

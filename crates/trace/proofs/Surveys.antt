@@ -22,9 +22,10 @@ use Rattle.meaning.proofs.Spans.{tiles_size}
 use Rattle.meaning.proofs.Tops.{until_walk, tops_next}
 use Rattle.trace.specs.declared.groups.Group.{Group}
 use Rattle.trace.specs.declared.groups.Counted.{Counted}
-use Rattle.trace.specs.Groups.{no_group_yet, none_yet, whole_group, counted, count_row, Surveyed, surveyed}
+use Rattle.trace.specs.declared.groups.Tops.{Tops}
+use Rattle.trace.specs.Groups.{no_group_yet, none_yet, whole_group, counted, count_row, CountableGroup, surveyed}
 use Rattle.trace.specs.Passing.{crossed}
-use Rattle.trace.proofs.Turns.{Over, walk_halt, walk_over}
+use Rattle.trace.proofs.Turns.{Over, over, over_le, walk_halt, walk_over}
 
 -- one more group
 abbrev on_to : ℕ → Counted → Top → Counted
@@ -95,18 +96,17 @@ count_all_lem id n rows =
     ∙ ap (λ (x : Group). record { count = length gs; group = x }) g
 
 -- THE SURVEY from here on, with what was counted before
-abbrev pub survey_from : ℕ → Counted → Counted → Result Walked → Surveyed
-survey_from n a b (accepted w) =
-    record { ended = accepted w.next; routes = count_all MQGACF_TRACE_ROUTE 0 a (tops w.rows); activities = count_all MQGACF_ACTIVITY n b (tops w.rows) }
-survey_from n a b (refused k p) = record { ended = refused k p; routes = none_yet; activities = none_yet }
+abbrev pub survey_from : ℕ → Counted → Counted → Result Walked → Result Tops
+survey_from n a b w =
+    and_then w (λ x. accepted (record { behind = x.next; routes = count_all MQGACF_TRACE_ROUTE 0 a (tops x.rows); activities = count_all MQGACF_ACTIVITY n b (tops x.rows) }))
 
 pub survey_start : (n : ℕ) (w : Result Walked) → surveyed n w ≡ survey_from n none_yet none_yet w
 survey_start n (accepted w) = rw (count_all_lem MQGACF_TRACE_ROUTE 0 w.rows, count_all_lem MQGACF_ACTIVITY n w.rows) refl
 survey_start n (refused k p) = refl
 
-pub survey_end : (m : Part) (p n : ℕ) (a b : Counted) → survey_from n a b (walk m p 1 0) ≡ record { ended = accepted p; routes = a; activities = b }
+pub survey_end : (m : Part) (p n k : ℕ) (a b : Counted) → k ≡ 0 → survey_from n a b (walk m p 1 k) ≡ accepted (record { behind = p; routes = a; activities = b })
 unfolding count_all tops
-survey_end m p n a b = rw (walk_zero m p 1) refl
+survey_end m p n k a b z = rw (z, walk_zero m p 1) refl
 
 pub count_le : (id n : ℕ) (c : Counted) (r : Row) (q : ℕ) → (count_row id n c r q).count ≤ c.count + 1
 unfolding count_row
@@ -116,14 +116,22 @@ count_le id n c r q = go (eqb r.kind MQCFT_GROUP && eqb r.parameter id)
     go true = omega arith
     go false = omega arith
 
+-- a group that was passed over can be counted, with no more counted than structures were gone over
+pub countable : (m : Part) (p n i : ℕ) (c : Counted) (r : Row) (q : ℕ) → accepted (record { row = r; next = q }) ≡ crossed m p 1 → r.kind ≡ MQCFT_GROUP
+    → c.count ≤ i → i < n → n < 4294967296 → CountableGroup c r q
+countable m p n i c r q e k a b h =
+    let o = over m p 1 r q (sym e) in
+    let g = row_at_lem m p 1 r o.there in
+    record { a_group = k; few = omega arith; ends = omega (arith, g.at_place, over_le m p 1 r q o) }
+
 -- a structure that is no group counts for nothing
 count_other : (id n : ℕ) (c : Counted) (r : Row) (q : ℕ) → ¬ (r.kind ≡ MQCFT_GROUP) → count_row id n c r q ≡ c
 unfolding count_row
 count_other id n c r q h = rw (ne_eqb _ _ h) refl
 
-module _ (m : Part) (p left n : ℕ) (a b : Counted) (due : 0 < left) where
-  pub survey_halt : (k q : ℕ) → crossed m p 1 ≡ refused k q → survey_from n a b (walk m p 1 left) ≡ record { ended = refused k q; routes = none_yet; activities = none_yet }
-  survey_halt k q e = rw (walk_halt m p 1 left due k q e) refl
+module _ (m : Part) (p left left' n : ℕ) (a b : Counted) (due : left ≡ left' + 1) where
+  pub survey_halt : (k q : ℕ) → crossed m p 1 ≡ refused k q → survey_from n a b (walk m p 1 left) ≡ refused k q
+  survey_halt k q e = rw (walk_halt m p 1 left left' due k q e) refl
 
   module _ (r : Row) (q : ℕ) (o : Over m p 1 r q) where
     abbrev top : Top
@@ -142,19 +150,19 @@ module _ (m : Part) (p left n : ℕ) (a b : Counted) (due : 0 < left) where
     unfolding count_all
     one_more id k c rows = ap (λ (x : Counted). count_all id k x (tops rows)) (row_top id k c)
 
-    next_tops : (y : Walked) → walk m q 1 (left - 1) ≡ accepted y → tops (r ∷ (o.inside ++ y.rows)) ≡ top ∷ tops y.rows
+    next_tops : (y : Walked) → walk m q 1 left' ≡ accepted y → tops (r ∷ (o.inside ++ y.rows)) ≡ top ∷ tops y.rows
     next_tops y e =
         tops_next r o.inside y.rows (sym (row_at_lem m p 1 r o.there).at_depth)
         (λ x i. walks_depth (walks m (p + r.size) 2 r.members o.inside q o.within) x i)
-        (until_walk (walks m q 1 (left - 1) y.rows y.next e))
+        (until_walk (walks m q 1 left' y.rows y.next e))
 
-    pub survey_next : survey_from n a b (walk m p 1 left) ≡ survey_from n (count_row MQGACF_TRACE_ROUTE 0 a r q) (count_row MQGACF_ACTIVITY n b r q) (walk m q 1 (left - 1))
-    survey_next = rw (walk_over m p 1 left due r q o) (go (walk m q 1 (left - 1)) refl)
+    pub survey_next : survey_from n a b (walk m p 1 left) ≡ survey_from n (count_row MQGACF_TRACE_ROUTE 0 a r q) (count_row MQGACF_ACTIVITY n b r q) (walk m q 1 left')
+    survey_next = rw (walk_over m p 1 left left' due r q o) (go (walk m q 1 left') refl)
       where
-        go : (w : Result Walked) → walk m q 1 (left - 1) ≡ w
+        go : (w : Result Walked) → walk m q 1 left' ≡ w
             → survey_from n a b (and_then w (λ y. walked (r ∷ (o.inside ++ y.rows)) y.next)) ≡ survey_from n (count_row MQGACF_TRACE_ROUTE 0 a r q) (count_row MQGACF_ACTIVITY n b r q) w
         go (accepted y) e = rw (next_tops y e, one_more MQGACF_TRACE_ROUTE 0 a y.rows, one_more MQGACF_ACTIVITY n b y.rows) refl
         go (refused k x) e = refl
 
-    pub survey_other : ¬ (r.kind ≡ MQCFT_GROUP) → survey_from n a b (walk m p 1 left) ≡ survey_from n a b (walk m q 1 (left - 1))
+    pub survey_other : ¬ (r.kind ≡ MQCFT_GROUP) → survey_from n a b (walk m p 1 left) ≡ survey_from n a b (walk m q 1 left')
     survey_other h = survey_next ∙ rw (count_other MQGACF_TRACE_ROUTE 0 a r q h, count_other MQGACF_ACTIVITY n b r q h) refl

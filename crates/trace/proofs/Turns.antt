@@ -10,21 +10,22 @@ use Rattle.meaning.specs.Walk.{Walked, walked, ahead, enter, walk}
 use Rattle.meaning.proofs.Tests.{clash, then_accepted}
 use Rattle.meaning.proofs.Walks.{walks, walks_le}
 use Rattle.meaning.proofs.Fuel.{walk_zero}
-use Rattle.structure.specs.Rows.{row_of}
+use Rattle.meaning.specs.Names.{most_depth}
+use Rattle.structure.specs.Rows.{reach_of}
+use Rattle.structure.proofs.Extents.{reaches, reach_fits, reach_least, reach_shallow}
 use Rattle.walk.proofs.Turns.{unfolded, walk_on}
-use Rattle.refusals.specs.declared.Refusal.{Refusal}
-use Rattle.refusals.specs.Refusals.{refusal}
-use Rattle.structure.specs.declared.structure.Row.{Row as Found-as-Row}
-use Rattle.trace.specs.declared.passing.Crossing.{Crossing}
-use Rattle.trace.specs.declared.passing.Crossing.TheVariants as crossing
-use Rattle.trace.specs.Passing.{Crossed, crossed, crossing_of}
+use Rattle.trace.specs.Passing.{Crossed, crossed}
 
--- what the code has found, in the meaning's terms
-pub is_over : {f : Crossing} {x : Result Crossed} {r : Found-as-Row} {q : ℕ} → crossing_of f ≡ x → f ≡ crossing.Over r q → x ≡ accepted (record { row = row_of r; next = q })
-is_over e h = sym e ∙ ap crossing_of h
+-- A STRUCTURE that was found, by its extent: it lies in the bytes, with 16 or more, and what has members is no deeper than 8
+module _ (m : Part) (p d n k : ℕ) (e : accepted (record { size = n; members = k }) ≡ reach_of (structure_at m p d)) where
+  pub extent_fits : p + n ≤ m.end
+  extent_fits = reach_fits (reaches e)
 
-pub is_stop : {f : Crossing} {x : Result Crossed} {q : Refusal} → crossing_of f ≡ x → f ≡ crossing.Refused q → x ≡ refusal q
-is_stop e h = sym e ∙ ap crossing_of h
+  pub extent_least : 16 ≤ n
+  extent_least = reach_least (reaches e)
+
+  pub extent_shallow : (k ≡ 0 → ⊥) → d ≤ most_depth
+  extent_shallow = reach_shallow (reaches e)
 
 -- WHAT IS PASSED, by what the structure and the walk inside it come to
 module _ (m : Part) (p d : ℕ) where
@@ -67,29 +68,33 @@ over m p d r q e =
     }
 
 -- ONE TURN of a walk
+-- in a loop over all structures, that one more is left
+pub one_left : (n i : ℕ) → i < n → n - i ≡ n - (i + 1) + 1
+one_left n i h = omega arith
+
 -- the structure and the place behind it, from the walk inside it
 abbrev step_to : Row → Walked → Result Crossed
 step_to r w = accepted (record { row = r; next = w.next })
 
-module _ (m : Part) (p d n : ℕ) (due : 0 < n) where
+module _ (m : Part) (p d n n' : ℕ) (due : n ≡ n' + 1) where
   pub walk_halt : (k q : ℕ) → crossed m p d ≡ refused k q → walk m p d n ≡ refused k q
   unfolding crossed
-  walk_halt k q e = unfolded m p d n due ∙ go (structure_at m p d) e
+  walk_halt k q e = unfolded m p d n n' due ∙ go (structure_at m p d) e
     where
       inner : (r : Row) (w : Result Walked) → and_then w (step_to r) ≡ refused k q
-          → ahead r (and_then w (λ x. and_then (walk m x.next d (n - 1)) (λ y. walked (x.rows ++ y.rows) y.next))) ≡ refused k q
+          → ahead r (and_then w (λ x. and_then (walk m x.next d n') (λ y. walked (x.rows ++ y.rows) y.next))) ≡ refused k q
       inner r (accepted x) e = absurd (clash (cc))
       inner r (refused k' q') e = cc
 
       go : (t : Result Row) → and_then t (λ r. and_then (walk m (p + r.size) (d + 1) r.members) (step_to r)) ≡ refused k q
-          → enter t (λ r. walk m (p + r.size) (d + 1) r.members) (λ q. walk m q d (n - 1)) ≡ refused k q
+          → enter t (λ r. walk m (p + r.size) (d + 1) r.members) (λ q. walk m q d n') ≡ refused k q
       go (accepted r) e = inner r (walk m (p + r.size) (d + 1) r.members) e
       go (refused k' q') e = cc
 
   pub walk_over : (r : Row) (q : ℕ) (o : Over m p d r q)
-      → walk m p d n ≡ and_then (walk m q d (n - 1)) (λ y. walked (r ∷ (o.inside ++ y.rows)) y.next)
+      → walk m p d n ≡ and_then (walk m q d n') (λ y. walked (r ∷ (o.inside ++ y.rows)) y.next)
   walk_over r q o =
-      walk_on m p d n due r.size r.members (record { row = r; there = o.there; size = refl; members = refl }) o.inside q o.within
+      walk_on m p d n n' due r.size r.members (record { row = r; there = o.there; size = refl; members = refl }) o.inside q o.within
 
 -- the place behind is not before the structure's end
 pub over_le : (m : Part) (p d : ℕ) (r : Row) (q : ℕ) → Over m p d r q → p + r.size ≤ q

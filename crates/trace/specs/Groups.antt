@@ -1,12 +1,11 @@
 -- Top-level groups as the code hands them out, in the meaning's terms.
 use Rattle.std.specs.Prelude.{◌≡◌, ℕ, ◌+◌, ◌-◌, ◌≤◌, ◌<◌, ◌&&◌, List, length, get_or, eqb}
 use Rattle.meaning.specs.Names.{MQCFT_GROUP, MQGACF_TRACE_ROUTE, MQGACF_ACTIVITY}
-use Rattle.meaning.specs.Answer.{Result, accepted, refused, when}
+use Rattle.meaning.specs.Answer.{Result, accepted, and_then, when}
 use Rattle.meaning.specs.Structure.{Row}
 use Rattle.meaning.specs.Walk.{Walked}
 use Rattle.meaning.specs.Trace.{Top, groups}
 use Rattle.meaning.specs.Activity.{size_of, no_group}
-use Rattle.walk.specs.Tallies.{ended_of}
 use Rattle.trace.specs.declared.groups.Group.{Group}
 use Rattle.trace.specs.declared.groups.Counted.{Counted}
 use Rattle.trace.specs.declared.groups.Tops.{Tops}
@@ -41,18 +40,11 @@ pub record CountableGroup (c : Counted) (r : Row) (q : ℕ) : Type 0 where
   pub a_group : r.kind ≡ MQCFT_GROUP
   pub few : c.count < 4294967296
   pub ends : r.place + r.size ≤ q
-  pub most : r.place + r.size ≤ 65536
-
-pub record Surveyed : Type 0 where
-  pub ended : Result ℕ
-  pub routes : Counted
-  pub activities : Counted
 
 -- what the top-level structures of a walk come to
-abbrev pub surveyed : ℕ → Result Walked → Surveyed
-surveyed n (accepted w) =
-    record { ended = accepted w.next; routes = counted MQGACF_TRACE_ROUTE 0 w.rows; activities = counted MQGACF_ACTIVITY n w.rows }
-surveyed n (refused k p) = record { ended = refused k p; routes = none_yet; activities = none_yet }
+abbrev pub tops_of : ℕ → Walked → Tops
+tops_of n w =
+    record { behind = w.next; routes = counted MQGACF_TRACE_ROUTE 0 w.rows; activities = counted MQGACF_ACTIVITY n w.rows }
 
-abbrev pub survey_of : Tops → Surveyed
-survey_of s = record { ended = ended_of s.ended; routes = s.routes; activities = s.activities }
+abbrev pub surveyed : ℕ → Result Walked → Result Tops
+surveyed n w = and_then w (λ x. accepted (tops_of n x))

@@ -1,14 +1,11 @@
 -- A structure with all that is inside it.
-use Rattle.std.specs.Prelude.{ℕ, ◌+◌, ◌≤◌, ◌≡◌, Bool, true, false, List, length}
+use Rattle.std.specs.Prelude.{ℕ, ◌+◌, Bool, true, false}
 use Rattle.meaning.specs.Bytes.{Part}
 use Rattle.meaning.specs.Answer.{Result, accepted, refused, and_then}
 use Rattle.meaning.specs.Structure.{Row, structure_at}
-use Rattle.meaning.specs.Names.{most_bytes}
 use Rattle.meaning.specs.Walk.{walk}
-use Rattle.refusals.specs.Refusals.{refusal}
 use Rattle.structure.specs.Rows.{row_of}
 use Rattle.trace.specs.declared.passing.Crossing.{Crossing}
-use Rattle.trace.specs.declared.passing.Crossing.TheVariants as crossing
 
 -- a structure, and the place behind all that is inside it
 pub record Crossed : Type 0 where
@@ -20,9 +17,8 @@ unfoldable pub crossed : Part → ℕ → ℕ → Result Crossed
 crossed m p d =
     and_then (structure_at m p d) (λ r. and_then (walk m (p + r.size) (d + 1) r.members) (λ w. accepted (record { row = r; next = w.next })))
 
-abbrev pub crossing_of : Crossing → Result Crossed
-crossing_of (crossing.Over r q) = accepted (record { row = row_of r; next = q })
-crossing_of (crossing.Refused r) = refusal r
+abbrev pub crossing_of : Crossing → Crossed
+crossing_of x = record { row = row_of x.row; next = x.behind }
 
 -- the place behind what was passed over
 abbrev pub behind_of : Result Crossed → Result ℕ
@@ -32,9 +28,3 @@ behind_of x = and_then x (λ s. accepted s.next)
 abbrev pub is_sound : {A : Type 0} → Result A → Bool
 is_sound (accepted x) = true
 is_sound (refused k p) = false
-
--- the message is there, and x, which its bytes come to, is known to be no refusal
-pub record Known {A : Type 0} (msg : List ℕ) (len : ℕ) (x : Result A) : Type 0 where
-  pub there : len ≤ length msg
-  pub most : len ≤ most_bytes
-  pub sound : is_sound x ≡ true

@@ -7,5 +7,5 @@ mod members;
 mod passing;
 
 pub use groups::Group;
-pub use location::{Answer, Traced, trace_of};
+pub use location::{Traced, trace_of};
 pub use passing::behind;

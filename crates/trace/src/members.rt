@@ -1,98 +1,92 @@
 // The eight attributes among the direct members of the TraceRoute group.
-ghost use Rattle.std.specs.Prelude.{◌≡◌, ◌≤◌, length};
+ghost use Rattle.std.specs.Prelude.{◌≡◌, length, true};
 ghost use Rattle.meaning.specs.Walk.{walk};
-ghost use Rattle.meaning.specs.Bytes.{part_of};
+ghost use Rattle.meaning.specs.Bytes.{whole};
 ghost use Rattle.meaning.specs.Trace.{values_at};
-ghost use Rattle.trace.specs.Passing.{Known};
-ghost use Rattle.trace.specs.Marks.{noted, Noted, Marked, all_found, InReach};
+ghost use Rattle.trace.specs.Passing.{is_sound};
+ghost use Rattle.trace.specs.Marks.{onto, Noted, Marked, all_places, InReach};
 
 use crate::passing::behind;
 use structure::MQCFT_INTEGER;
 use wire::number_at;
 
-// An attribute has a mark: the place of its integer, or one of these, which are no places of structures. Once a member with
-// its identifier is no integer, or comes second, it stays at fault.
-const ABSENT: usize = 0;
-
-const FAULT: usize = 1;
-
-// The mark of the attribute with the identifier, after one more direct member of the group.
-fn note(id: u32, mark: usize, kind: u32, parameter: u32, place: usize) -> usize
-    ensures { result ≡ noted id mark kind parameter place }
-{
-    if parameter != id {
-        return mark;
-    }
-    if kind != MQCFT_INTEGER {
-        return FAULT;
-    }
-    if mark != ABSENT {
-        return FAULT;
-    }
-    place
+// What was met of an attribute among the members so far: nothing; a member that is no integer, or more than one member,
+// from which on it stays at fault; or one integer, which is at this place.
+#[derive(Clone, Copy, Debug, PartialEq, Eq)]
+pub enum Mark {
+    Absent,
+    Fault,
+    At(usize),
 }
 
-// The marks of the eight attributes, after one more direct member of the group.
-fn note_all(
-    sheet: [u32; 8],
-    marks: [usize; 8],
-    kind: u32,
-    parameter: u32,
-    place: usize,
-) -> [usize; 8]
-    ensures { Noted sheet marks kind parameter place result }
+// The mark of an attribute after one more member with its identifier.
+#[tactic(auto, unfolding(crate::specs::Marks::onto))]
+fn mark_one(mark: Mark, kind: u32, place: usize) -> Mark
+    ensures { result ≡ onto mark kind place }
 {
-    let mut after = marks;
-    let mut k = 0;
-    while k < 8 {
-        after[k] = note(sheet[k], marks[k], kind, parameter, place);
-        k += 1;
+    if kind == MQCFT_INTEGER && mark == Mark::Absent {
+        Mark::At(place)
+    } else {
+        Mark::Fault
     }
-    after
+}
+
+// The marks of the eight attributes, after one more direct member of the group. They are marked in place: given and handed back
+// by value, they are copied for each member, which is slower.
+fn mark_all(sheet: &[u32; 8], marks: &mut [Mark; 8], kind: u32, parameter: u32, place: usize)
+    ensures { Noted sheet.now marks.old kind parameter place marks.new }
+{
+    for k in 0..8 {
+        if parameter == sheet[k] {
+            marks[k] = mark_one(marks[k], kind, place);
+        }
+    }
 }
 
 // The marks of the eight attributes after all of a group's direct members, `count` of them, the first at `place`. What is
 // nested deeper is passed over. The members were surveyed, so none is checked again.
-pub fn marks_of(msg: &[u8], end: usize, place: usize, count: u32, sheet: [u32; 8]) -> [usize; 8]
-    requires { Known msg.now end (walk (part_of msg.now end) place 2 count) }
-    ensures { Marked sheet (walk (part_of msg.now end) place 2 count) result }
+#[tactic(auto, using(crate::proofs::Skipping::left_first, crate::proofs::Skipping::known_room, crate::proofs::Marking::none_marked))]
+pub fn marks_of(s: &[u8], place: usize, count: u32, sheet: [u32; 8]) -> [Mark; 8]
+    requires { is_sound (walk (whole s.now) place 2 count) ≡ true }
+    ensures { Marked sheet (walk (whole s.now) place 2 count) result }
 {
     let mut at = place;
-    let mut left = count;
-    let mut marks = [0usize; 8];
-    while 0 < left {
-        let after = note_all(sheet, marks, number_at(msg, at), number_at(msg, at + 8), at);
-        marks = after;
-        at = behind(msg, end, at, 2);
-        left = left - 1;
+    let mut marks = [Mark::Absent; 8];
+    for _ in 0..count {
+        mark_all(
+            &sheet,
+            &mut marks,
+            number_at(s, at),
+            number_at(s, at + 8),
+            at,
+        );
+        at = behind(s, at, 2);
     }
     marks
 }
 
-// Every attribute has its place.
-pub fn all_found(marks: [usize; 8]) -> bool
-    ensures { result ≡ all_found marks }
+// The places of the eight attributes, if each has one.
+pub fn places_of(marks: [Mark; 8]) -> Option<[usize; 8]>
+    ensures { result ≡ all_places marks }
 {
-    let mut k = 0;
-    while k < 8 {
-        if marks[k] <= FAULT {
-            return false;
-        }
-        k += 1;
+    let mut places = [0; 8];
+    for k in 0..8 {
+        let Mark::At(place) = marks[k] else {
+            return None;
+        };
+        places[k] = place;
     }
-    true
+    Some(places)
 }
 
 // The Values of the integers at eight places.
-pub fn values_at(msg: &[u8], end: usize, places: [usize; 8]) -> [u32; 8]
-    requires { (end ≤ length msg.now) × InReach end places }
-    ensures { result ≡ values_at (part_of msg.now end) places }
+pub fn values_at(s: &[u8], places: [usize; 8]) -> [u32; 8]
+    requires { InReach (length s.now) places }
+    ensures { result ≡ values_at (whole s.now) places }
 {
-    let mut values = [0u32; 8];
-    let mut k = 0;
-    while k < 8 {
-        values[k] = number_at(msg, places[k] + 12);
-        k += 1;
+    let mut values = [0; 8];
+    for k in 0..8 {
+        values[k] = number_at(s, places[k] + 12);
     }
     values
 }

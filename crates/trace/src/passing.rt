@@ -1,65 +1,67 @@
 // Passing over a structure with all that is inside it.
-ghost use Rattle.std.specs.Prelude.{◌≡◌, ◌≤◌, length};
+ghost use Rattle.std.specs.Prelude.{◌≡◌, true};
 ghost use Rattle.meaning.specs.Answer.{accepted};
-ghost use Rattle.meaning.specs.Bytes.{part_of};
-ghost use Rattle.trace.specs.Passing.{crossing_of, crossed, behind_of, Known};
+ghost use Rattle.meaning.specs.Bytes.{whole};
+ghost use Rattle.refusals.specs.Refusals.{answered};
+ghost use Rattle.trace.specs.Passing.{crossing_of, crossed, behind_of, is_sound};
 
 use refusals::Refusal;
 use structure::{Extent, MQCFT_GROUP, Row, extent_at};
-use walk::{Passed, over};
+use walk::over;
 use wire::number_at;
 
-// A structure and the place behind all that is inside it, or the first fault there.
-#[derive(Clone, Copy)]
-pub enum Crossing {
-    Over(Row, usize),
-    Refused(Refusal),
+// A structure, and the place behind all that is inside it.
+#[derive(Clone, Copy, Debug, PartialEq, Eq)]
+pub struct Crossing {
+    pub row: Row,
+    pub behind: usize,
 }
 
-// Passes over the structure at `place`, of this depth, and all that is inside it.
-pub fn pass(msg: &[u8], end: usize, place: usize, depth: u32) -> Crossing
-    requires { (end ≤ length msg.now) × (end ≤ 65536) }
-    ensures { crossing_of result ≡ crossed (part_of msg.now end) place depth }
+// Passes over the structure at `place`, of this depth, and all that is inside it; or gives the first fault there.
+#[tactic(auto, using(crate::proofs::Turns::extent_fits, crate::proofs::Turns::extent_least, crate::proofs::Turns::extent_shallow))]
+pub fn pass(s: &[u8], place: usize, depth: u32) -> Result<Crossing, Refusal>
+    ensures { answered crossing_of result ≡ crossed (whole s.now) place depth }
 {
-    let found = extent_at(msg, end, place, depth);
-    match found {
-        Extent::Refused(r) => Crossing::Refused(r),
-        Extent::Sound(size, members) => {
+    // a match, as in the survey: with a `?` in either place the survey of a flat message takes twice as long
+    match extent_at(s, place, depth) {
+        Err(r) => Err(r),
+        Ok(Extent { size, members }) => {
             let row = Row {
                 depth,
                 place,
-                kind: number_at(msg, place),
-                parameter: number_at(msg, place + 8),
+                kind: number_at(s, place),
+                parameter: number_at(s, place + 8),
                 size,
                 members,
             };
             let next = place + size as usize;
             if members == 0 {
-                return Crossing::Over(row, next);
+                return Ok(Crossing { row, behind: next });
             }
-            let inner = over(msg, end, next, depth + 1, members);
-            match inner {
-                Passed::Refused(r) => Crossing::Refused(r),
-                Passed::Behind(behind, _) => Crossing::Over(row, behind),
-            }
+            let inner = over(s, next, depth + 1, members)?;
+            Ok(Crossing {
+                row,
+                behind: inner.behind,
+            })
         }
     }
 }
 
 // The place behind a structure that is known to be sound, and behind all that is inside it. Its fields are read and not checked
-// again: whoever goes over the members of a group that was surveyed asks this of each.
-pub fn behind(msg: &[u8], end: usize, place: usize, depth: u32) -> usize
-    requires { Known msg.now end (crossed (part_of msg.now end) place depth) }
-    ensures { behind_of (crossed (part_of msg.now end) place depth) ≡ accepted result }
+// again: whoever goes over the members of a group that was surveyed asks this of each. (That they are sound is a fact of bytes, place,
+// depth and count together, none of which the others always go with: so it stands in four contracts, and in no type.)
+#[tactic(auto, using(crate::proofs::Skipping::known_room, crate::proofs::Skipping::known_fits))]
+pub fn behind(s: &[u8], place: usize, depth: u32) -> usize
+    requires { is_sound (crossed (whole s.now) place depth) ≡ true }
+    ensures { behind_of (crossed (whole s.now) place depth) ≡ accepted result }
 {
-    let next = place + number_at(msg, place + 4) as usize;
-    if number_at(msg, place) != MQCFT_GROUP {
+    let next = place + number_at(s, place + 4) as usize;
+    if number_at(s, place) != MQCFT_GROUP {
         return next;
     }
-    let inner = over(msg, end, next, depth + 1, number_at(msg, place + 12));
-    match inner {
-        // never: the members of a sound group are sound
-        Passed::Refused(_) => next,
-        Passed::Behind(behind, _) => behind,
+    match over(s, next, depth + 1, number_at(s, place + 12)) {
+        Ok(inner) => inner.behind,
+        // the members of a sound group are sound
+        Err(_) => unreachable!(),
     }
 }

@@ -1,8 +1,9 @@
 -- What is due for an event and what is answered, as the code has it, in the meaning's terms.
-use Rattle.std.specs.Prelude.{ℕ, ◌≤◌, ◌≡◌, Bool, List}
+use Rattle.std.specs.Prelude.{ℕ, ◌≤◌, ◌≡◌, Bool, List, Result, Ok, Err}
 use Rattle.meaning.specs.Names.{RecordedActivities, UnrecordedActivities, DiscontinuityCount}
 use Rattle.meaning.specs.Event.{Level as Rank, low, medium, high, Settings as Manager, Event, discontinuity, activity, Plan as Due, plan_of, Done as Told, Answer as Said, done, denied}
 use Rattle.refusals.specs.Refusals.{number_of, place_of, owed}
+use Rattle.refusals.specs.declared.Refusal.{Refusal}
 use Rattle.layout.specs.Layouts.{layout_of}
 use Rattle.verdict.specs.declared.plan.Level.{Level}
 use Rattle.verdict.specs.declared.plan.Level.TheVariants.{Low, Medium, High}
@@ -11,8 +12,6 @@ use Rattle.verdict.specs.declared.plan.Counter.{Counter}
 use Rattle.verdict.specs.declared.plan.Counter.TheVariants.{Recorded, Unrecorded, Discontinuities}
 use Rattle.verdict.specs.declared.plan.Plan.{Plan}
 use Rattle.verdict.specs.declared.answer.Done.{Done}
-use Rattle.verdict.specs.declared.answer.Answer.{Answer}
-use Rattle.verdict.specs.declared.answer.Answer.TheVariants as answer
 
 abbrev pub level_of : Level → Rank
 level_of Low = low
@@ -51,6 +50,6 @@ abbrev pub done_of : Done → Told
 done_of d = record { counter = counter_of d.counter; appended = d.appended; report_length = d.report; message_length = d.message }
 
 -- an answer: a refusal has its number and place, and 10 says whether a reply is owed
-abbrev pub answer_of : Answer → Said
-answer_of (answer.Done d) = done (done_of d)
-answer_of (answer.Refused r) = denied (number_of r) (place_of r) (owed r)
+abbrev pub answer_of : Result Done Refusal → Said
+answer_of (Ok d) = done (done_of d)
+answer_of (Err r) = denied (number_of r) (place_of r) (owed r)

@@ -4,5 +4,5 @@
 mod answer;
 mod plan;
 
-pub use answer::{Answer, Done, decide};
-pub use plan::{Counter, Level, Plan, Settings, index_of, plan_activity, plan_discontinuity};
+pub use answer::{Done, decide};
+pub use plan::{Counter, Level, Plan, Settings, plan_activity, plan_discontinuity};

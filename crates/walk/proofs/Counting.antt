@@ -1,29 +1,18 @@
--- The laws of counts: what rows add, one at a time and one list behind another, and that no count runs over.
+-- The laws of counts: what one row adds, and what all add from nothing.
 use mathlib.Core.Path.{◌≡◌, refl, sym}
-use mathlib.Core.List.{List, [], ◌∷◌, ◌++◌}
-use Prim.Native.Nat.{ℕ, zero, suc, ◌+◌, ◌≤◌, ◌<◌}
-use native.Mathlib.Nat.{add-zero, zero-add}
+use mathlib.Core.List.{List, [], ◌∷◌}
+use Prim.Native.Nat.{ℕ, zero, suc, ◌+◌, ◌<◌}
+use native.Mathlib.Nat.{zero-add}
 use native.Mathlib.Omega.{arith}
-use lib.ListN.{length, get_or, set, replicate}
+use lib.ListN.{get_or, set, replicate}
 use borrow.Author.Tests.{eq-eqb, ne_eqb}
 use Rattle.meaning.specs.Structure.{Row}
 use Rattle.meaning.specs.Message.{count_of, counts_from}
-use Rattle.meaning.proofs.Tallies.{count_append, count_le}
 use Rattle.walk.specs.Tallies.{added, raised, Low}
 
 -- two lists with equal heads and equal rests
 both : {x y : ℕ} {xs ys : List ℕ} → x ≡ y → xs ≡ ys → x ∷ xs ≡ y ∷ ys
 both e f = cc
-
-pub added_nil : (k : ℕ) (t : List ℕ) → added k t [] ≡ t
-unfolding added count_of
-added_nil k [] = refl
-added_nil k (x ∷ xs) = both (add-zero x) (added_nil (suc k) xs)
-
-pub added_append : (k : ℕ) (t : List ℕ) (xs ys : List Row) → added k (added k t xs) ys ≡ added k t (xs ++ ys)
-unfolding added
-added_append k [] xs ys = refl
-added_append k (x ∷ t) xs ys = both (omega (arith, count_append k xs ys)) (added_append (suc k) t xs ys)
 
 -- a row of a type below those counted
 added_none : (k : ℕ) (t : List ℕ) (r : Row) → r.kind < k → added k t (r ∷ []) ≡ t
@@ -54,16 +43,7 @@ unfolding added counts_from
 counted zero k rows = refl
 counted (suc n) k rows = both (zero-add (count_of k rows)) (counted n (suc k) rows)
 
--- counts stay low
-added_le : (k : ℕ) (t : List ℕ) (rows : List Row) (i : ℕ) → get_or (added k t rows) i 0 ≤ get_or t i 0 + length rows
-unfolding added
-added_le k [] rows i = omega arith
-added_le k (x ∷ t) rows zero = omega (arith, count_le k rows)
-added_le k (x ∷ t) rows (suc i) = added_le (suc k) t rows i
-
-pub added_low : (t : List ℕ) (p : ℕ) (rows : List Row) (q : ℕ) → Low t p → p + length rows ≤ q → Low (added 0 t rows) q
-added_low t p rows q low h k = omega (arith, added_le 0 t rows k, low k)
-
+-- no count is above any place
 pub zeros_low : (n p : ℕ) → Low (replicate n 0) p
 zeros_low zero p k = omega arith
 zeros_low (suc n) p zero = omega arith

@@ -1,5 +1,5 @@
 pub mod Counting
 pub mod Answers
 pub mod Turns
-pub mod Counts
+pub mod Walks
 pub mod Numbering

@@ -1,8 +1,12 @@
-// The walk over structures and all that is inside them: without counts, to pass over them, and with a count for each type.
+// The walk over structures and all that is inside them, for any counter: to pass over them with their number, and with a count for
+// each type.
 #![tactic(auto)]
 
+mod counter;
 mod passing;
 mod tallying;
+mod walking;
 
-pub use passing::{Passed, over};
-pub use tallying::{Ended, Walked, siblings};
+pub use passing::over;
+pub use tallying::siblings;
+pub use walking::Reached;

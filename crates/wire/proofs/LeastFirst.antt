@@ -1,9 +1,7 @@
--- The bytes of a number that is the sum of four: they come out again, and turned round they stand the other way round.
-use mathlib.Core.Path.{◌≡◌, ◌∙◌, sym}
-use mathlib.Core.List.{[], ◌∷◌}
-use Prim.Native.Nat.{ℕ, ◌+◌, ◌*◌, ◌/◌, ◌%◌, ◌<◌}
+-- The bytes of a number that is the sum of four: they come out again, and swapped they stand the other way round.
+use Rattle.std.proofs.Common.{◌≡◌, ◌∙◌, sym, ℕ, ◌+◌, ◌*◌, ◌/◌, ◌%◌, ◌<◌, [], ◌∷◌, arith}
 use native.Mathlib.Nat.{div-div-eq-div-mul}
-use native.Mathlib.Omega.{arith}
+use Rattle.std.specs.Int.{w32, swap_bytes}
 use Rattle.wire.specs.LeastFirst.{LeastFirst}
 
 -- one byte and the rest
@@ -32,3 +30,10 @@ module _ {x a b c d : ℕ} (h : LeastFirst x a b c d) where
   -- turned round, they are the same four from the other end
   pub turned_round : {r : ℕ} → LeastFirst r (x / 16777216 % 256) (x / 65536 % 256) (x / 256 % 256) (x % 256) → LeastFirst r d c b a
   turned_round {r} t = rw (byte_1.0, byte_2.0, byte_3.0, byte_4) at t
+
+  -- which is what the library's swap gives, so that the first byte counts most
+  pub swapped : {r : ℕ} → r ≡ swap_bytes w32 x → r ≡ ((a * 256 + b) * 256 + c) * 256 + d
+  swapped {r} e =
+      let s : r ≡ x % 256 * 16777216 + x / 256 % 256 * 65536 + x / 65536 % 256 * 256 + x / 16777216 % 256 = e in
+      let t : LeastFirst r d c b a = turned_round (record { number = omega arith; first = omega arith; second = omega arith; third = omega arith; fourth = omega arith }) in
+      omega (arith, t.number)

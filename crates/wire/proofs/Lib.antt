@@ -1,1 +1,2 @@
 mod LeastFirst
+pub mod Parts

@@ -8,17 +8,16 @@ use Rattle.header.proofs.put_header.Goals as goal
 
 pub loop-i-init : goal.loop-i-init
 unfolding words
-loop-i-init c = (omega arith, refl, sym (splice-none _ 0))
+loop-i-init c = (refl, sym (splice-none _ 0))
 
 pub loop-i-preserved : goal.loop-i-preserved
 loop-i-preserved c =
     let a = c.args in (
-      omega arith,
-      c.put_number.auto.s ∙ c.loop-i.invariant.1,
-      c.put_number.ensures ∙ rw (c.loop-i.invariant.2, c.field.ensures) (write_next a.buf.now (fields_of a.kind) c.loop-i.i (omega (arith, nine a.kind)) (omega (arith, nine a.kind))),
+      c.put_number.auto.s ∙ c.loop-i.invariant.0,
+      c.put_number.ensures ∙ rw (c.loop-i.invariant.1, c.field.ensures) (write_next a.buf.now (fields_of a.kind) c.loop-i.i (omega (arith, nine a.kind)) (omega (arith, nine a.kind))),
     )
 
 pub returns : goal.returns
 returns c =
     let a = c.args in
-    c.loop-i.invariant.2 ∙ ap (λ (l : List ℕ). splice a.buf.now 0 (words l)) (take_all c.loop-i.i (fields_of a.kind) (omega (arith, nine a.kind)))
+    c.loop-i.invariant.1 ∙ ap (λ (l : List ℕ). splice a.buf.now 0 (words l)) (take_all c.loop-i.i (fields_of a.kind) (omega (arith, nine a.kind)))

@@ -1,18 +1,19 @@
 -- For every input, sheet and identifier.
-use Rattle.std.proofs.Common.{ap, arith}
-use Rattle.trace.specs.Locations.{present_of}
-use Rattle.hops.proofs.Entries.{lost_place, lost_text, end_room, found_text}
+use Rattle.std.proofs.Common.{arith}
+use Rattle.hops.proofs.Entries.{lost_place, lost_text, due, end_room, found_text}
 use Rattle.hops.proofs.print.Goals as goal
 
 pub refused_line-requires : goal.refused_line-requires
-refused_line-requires c = lost_place _ _ c.args.id c.args.out.now _ c.trace_of-found.ensures _ _ (ap present_of c.in-Refused.is)
+refused_line-requires c = lost_place _ _ c.args.id c.args.out.now _ _ c.in-Err.ensures
+
+pub put_groups-groups-requires : goal.put_groups-groups-requires
+put_groups-groups-requires c = due _ _ c.args.id _ _ c.in-Ok.ensures (omega arith)
 
 pub put_end-requires : goal.put_end-requires
-put_end-requires c = end_room _ _ _ _ _ c.trace_of-found.ensures (ap present_of c.in-Found.is) (omega arith) _ _ c.put_groups-groups.ensures
+put_end-requires c = end_room _ _ _ _ _ c.in-Ok.ensures (omega arith) _ _ c.put_groups-groups.ensures
 
-pub returns-in-Refused : goal.returns-in-Refused
-returns-in-Refused c = lost_text _ _ _ _ _ c.trace_of-found.ensures _ _ (ap present_of c.in-Refused.is) _ _ c.refused_line.ensures
+pub returns-in-Err : goal.returns-in-Err
+returns-in-Err c = lost_text _ _ _ _ _ _ c.in-Err.ensures _ _ c.refused_line.ensures
 
-pub returns-in-Found : goal.returns-in-Found
-returns-in-Found c =
-    found_text _ _ _ _ _ c.trace_of-found.ensures (ap present_of c.in-Found.is) (omega arith) _ _ c.put_groups-groups.ensures _ _ c.put_end.ensures
+pub returns-in-Ok : goal.returns-in-Ok
+returns-in-Ok c = found_text _ _ _ _ _ c.in-Ok.ensures (omega arith) _ _ c.put_groups-groups.ensures _ _ c.put_end.ensures

@@ -1,9 +1,9 @@
--- the bytes of the turned number, least significant first, are those of the number, most significant first
 use Rattle.std.proofs.Common.{◌∙◌}
 use Rattle.meaning.specs.Bytes.{bytes4}
-use Rattle.wire.proofs.LeastFirst.{bytes_of}
+use Rattle.meaning.proofs.Numbers.{length-bytes4}
+use Rattle.wire.proofs.Parts.{over_part}
 use Rattle.wire.proofs.put_number.Goals as goal
 
 pub returns : goal.returns
 unfolding bytes4
-returns c = c.put_four.ensures ∙ rw (bytes_of c.turned.ensures)
+returns c = over_part _ _ 4 (bytes4 c.args.v) _ (c.copy_from_slice.ensures.after ∙ c.to_be_bytes.ensures) (length-bytes4 c.args.v)

@@ -1,10 +1,10 @@
--- The invariant: the first n bytes, trimmed, are all of them, trimmed.
-use Rattle.std.proofs.Common.{◌≡◌, ◌≤◌, take, drop}
+-- The invariant: what is left, trimmed, is all of them, trimmed.
+use Rattle.std.proofs.Common.{◌≡◌, length}
 use Rattle.meaning.specs.Activity.{trimmed}
 use Rattle.activities.proofs.names.kept.Given as goal
 
-abbrev pub invariant-loop-n : goal.invariant-loop-n
-invariant-loop-n l = (l.n ≤ l.size) × (trimmed (take l.size (drop l.place l.msg)) ≡ trimmed (take l.n (drop l.place l.msg)))
+abbrev pub invariant-loop-left : goal.invariant-loop-left
+invariant-loop-left l = trimmed l.s ≡ trimmed l.left
 
-abbrev pub decreases-loop-n : goal.decreases-loop-n
-decreases-loop-n l = l.n
+abbrev pub decreases-loop-left : goal.decreases-loop-left
+decreases-loop-left l = length l.left

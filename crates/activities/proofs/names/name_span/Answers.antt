@@ -1,38 +1,46 @@
 -- The first string of the Activity group, trimmed.
-use Rattle.std.proofs.Common.{ℕ, sym, ap, ◌∙◌}
-use Rattle.meaning.specs.Activity.{in_message}
-use Rattle.layout.specs.Layouts.{layout_of}
+use Rattle.std.proofs.Common.{ℕ, List, length, refl, sym, ap, ◌∙◌, arith}
+use lib.Seq.{length-take-le}
+use Rattle.meaning.specs.Activity.{in_message, trimmed}
 use Rattle.attributes.specs.Terms.{terms_of}
-use Rattle.trace.specs.Locations.{present_of}
-use Rattle.activities.specs.Naming.{named_in}
-use Rattle.activities.proofs.Namings.{name_lost, group_known, string_fits, name_missing, name_found}
+use Rattle.activities.specs.Spans.{span_in}
+use Rattle.activities.proofs.Parts.{span_bytes}
+use Rattle.activities.proofs.Namings.{name_lost, reached, group_known, string_fits, name_missing, name_found}
 use Rattle.activities.proofs.names.name_span.Goals as goal
 
-pub first_string-found-requires : goal.first_string-found-requires
-first_string-found-requires c =
+pub returns-in_default : goal.returns-in_default
+returns-in_default c =
     let a = c.args in
-    group_known (terms_of (layout_of a.layout) a.sheet) a.msg.now a.len a.n a.id _ c.trace_of-t.ensures (ap present_of c.in-Found.is)
+    name_lost (terms_of a.terms) a.msg.now a.len a.n a.id _ _ c.in_default.ensures
 
-pub kept-requires : goal.kept-requires
-kept-requires c =
+pub slice_bounds-first_string-end : goal.slice_bounds-first_string-end
+slice_bounds-first_string-end c =
     let a = c.args in
-    string_fits (terms_of (layout_of a.layout) a.sheet) a.msg.now a.len a.n a.id _ c.trace_of-t.ensures (ap present_of c.in-Found.is) _
-    (sym c.first_string-found.ensures ∙ ap named_in c.in-InMessage.is)
+    sym (length-take-le c.in-Ok.t.part.end a.msg.now (reached (terms_of a.terms) a.msg.now a.len a.n a.id c.in-Ok.t c.in-Ok.ensures))
 
-pub returns-in-Refused : goal.returns-in-Refused
-returns-in-Refused c =
+pub first_string-requires : goal.first_string-requires
+first_string-requires c =
     let a = c.args in
-    name_lost (terms_of (layout_of a.layout) a.sheet) a.msg.now a.len a.n a.id _ c.trace_of-t.ensures _ _ (ap present_of c.in-Refused.is)
+    group_known (terms_of a.terms) a.msg.now a.len a.n a.id c.in-Ok.t c.in-Ok.ensures
 
-pub returns-in-Substitute : goal.returns-in-Substitute
-returns-in-Substitute c =
+pub returns-in_err-data : goal.returns-in_err-data
+returns-in_err-data c =
     let a = c.args in
-    name_missing (terms_of (layout_of a.layout) a.sheet) a.msg.now a.len a.n a.id _ c.trace_of-t.ensures (ap present_of c.in-Found.is)
-    (sym c.first_string-found.ensures ∙ ap named_in c.in-Substitute.is)
+    rw c.from_residual.ensures (name_missing (terms_of a.terms) a.msg.now a.len a.n a.id c.in-Ok.t c.in-Ok.ensures c.in_err-data.ensures)
 
-pub returns-in-InMessage : goal.returns-in-InMessage
-returns-in-InMessage c =
+pub overflow_add-data : goal.overflow_add-data
+overflow_add-data c =
     let a = c.args in
-    ap (λ (x : ℕ). in_message (record { place = c.in-InMessage.span.place; length = x })) c.kept.ensures
-    ∙ name_found (terms_of (layout_of a.layout) a.sheet) a.msg.now a.len a.n a.id _ c.trace_of-t.ensures (ap present_of c.in-Found.is) _
-    (sym c.first_string-found.ensures ∙ ap named_in c.in-InMessage.is)
+    omega (arith, string_fits (terms_of a.terms) a.msg.now a.len a.n a.id c.in-Ok.t c.in-Ok.ensures (span_in c.in_ok-data.data) c.in_ok-data.ensures)
+
+pub slice_bounds-kept-end : goal.slice_bounds-kept-end
+slice_bounds-kept-end c =
+    let a = c.args in
+    string_fits (terms_of a.terms) a.msg.now a.len a.n a.id c.in-Ok.t c.in-Ok.ensures (span_in c.in_ok-data.data) c.in_ok-data.ensures
+
+pub returns : goal.returns
+returns c =
+    let a = c.args in
+    let s = c.in_ok-data.data in
+    ap (λ (x : ℕ). in_message (record { place = s.place; length = x })) (c.kept.ensures ∙ ap (λ (l : List ℕ). length (trimmed l)) (span_bytes a.msg.now s (span_in s) refl))
+    ∙ name_found (terms_of a.terms) a.msg.now a.len a.n a.id c.in-Ok.t c.in-Ok.ensures (span_in s) c.in_ok-data.ensures

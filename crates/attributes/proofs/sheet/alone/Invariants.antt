@@ -1,11 +1,8 @@
 -- What was seen so far and what is behind `k` tell as much as what is behind `i`.
-use Rattle.std.proofs.Common.{◌≡◌, ◌+◌, ◌-◌, ◌≤◌, drop}
+use Rattle.std.proofs.Common.{◌≡◌, ◌+◌, drop}
 use mathlib.Core.Bool.{◌&&◌}
 use Rattle.meaning.specs.Trace.{absent}
 use Rattle.attributes.proofs.sheet.alone.Given as goal
 
 abbrev pub invariant-loop-k : goal.invariant-loop-k
-invariant-loop-k l = (l.k ≤ 8) × (absent l.x (drop (l.i + 1) l.sheet) ≡ (l.lone && absent l.x (drop l.k l.sheet)))
-
-abbrev pub decreases-loop-k : goal.decreases-loop-k
-decreases-loop-k l = 8 - l.k
+invariant-loop-k l = absent l.x (drop (l.i + 1) l.sheet) ≡ (l.lone && absent l.x (drop l.k l.sheet))

@@ -1,12 +1,9 @@
 -- The first k integers are written behind the group's header.
-use Rattle.std.proofs.Common.{◌≡◌, ◌-◌, ◌≤◌, length}
+use Rattle.std.proofs.Common.{◌≡◌, length}
 use Rattle.meaning.specs.Bytes.{words, splice}
 use Rattle.compose.proofs.Composing.{first_of}
 use Rattle.compose.proofs.composition.put_trace.Given as goal
 
 abbrev pub invariant-loop-k : goal.invariant-loop-k
 invariant-loop-k l =
-    (l.k ≤ 8) × (length l.buf ≡ length l.fn.buf) × (l.buf ≡ splice l.initial.buf 52 (words (first_of l.sheet l.values l.k)))
-
-abbrev pub decreases-loop-k : goal.decreases-loop-k
-decreases-loop-k l = 8 - l.k
+    (length l.buf ≡ length l.fn.buf) × (l.buf ≡ splice l.initial.buf 52 (words (first_of l.sheet l.values l.k)))

@@ -8,10 +8,10 @@ pub returns : goal.returns
 returns c =
     rw (
       c.put_number-5.ensures,
-      c.copy_to.ensures,
+      c.copy_to-2.ensures,
       c.put_number-4.ensures,
       c.put_number-3.ensures,
       c.put_number-2.ensures,
       c.put_number.ensures,
-      c.copy.ensures,
+      c.copy_to.ensures,
     ) (header_written c.args.buf.now (embedding_in c.args.e) c.args.end c.requires (search rules))

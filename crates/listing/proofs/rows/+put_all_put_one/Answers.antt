@@ -3,17 +3,16 @@ use Rattle.std.proofs.Common.{arith}
 use Rattle.listing.proofs.Turns.{its, line_room, group_due, group_done, plain_done, first_due, first_done, all_done}
 use Rattle.listing.proofs.rows.+put_all_put_one.Goals as goal
 
-pub put_all-put_one-one-requires : goal.put_all-put_one-one-requires
-put_all-put_one-one-requires t c =
-    (omega (arith, c.decreases), first_due _ _ _ _ _ _ _ _ _ c.loop-left.invariant c.loop-left-test.true)
+pub put_all-put_one-behind-requires : goal.put_all-put_one-behind-requires
+put_all-put_one-behind-requires t c =
+    (omega (arith, c.decreases), first_due _ _ _ _ _ _ _ _ _ c.loop.invariant (omega arith))
 
-pub put_all-loop-left-preserved : goal.put_all-loop-left-preserved
-put_all-loop-left-preserved t c =
-    first_done _ _ _ _ _ _ _ _ _ c.loop-left.invariant _ _ c.loop-left-test.true c.put_one-one.auto.out c.put_one-one.ensures
+pub put_all-loop-preserved : goal.put_all-loop-preserved
+put_all-loop-preserved t c =
+    first_done _ _ _ _ _ _ _ _ _ c.loop.invariant _ _ (omega arith) c.put_one-behind.auto.out c.put_one-behind.ensures
 
 pub put_all-returns : goal.put_all-returns
-put_all-returns t c =
-    all_done _ _ _ _ _ _ _ _ _ c.loop-left.invariant (omega (arith, c.loop-left-test.false))
+put_all-returns t c = all_done _ _ _ _ _ _ _ _ _ c.loop.invariant (omega arith)
 
 pub put_one-line_at-line-requires : goal.put_one-line_at-line-requires
 put_one-line_at-line-requires t c =
@@ -37,6 +36,6 @@ pub put_one-returns-then-line-eq-MQCFT_GROUP : goal.put_one-returns-then-line-eq
 put_one-returns-then-line-eq-MQCFT_GROUP t c =
     group_done _ _ _ _ _ c.requires _ _ _ _ _ _ c.line_at-line.ensures c.number_at-members.ensures c.if-line-eq-MQCFT_GROUP.true c.put_line-text.ensures c.put_all.ensures
 
-pub put_one-returns : goal.put_one-returns
-put_one-returns t c =
+pub put_one-returns-else-line-eq-MQCFT_GROUP : goal.put_one-returns-else-line-eq-MQCFT_GROUP
+put_one-returns-else-line-eq-MQCFT_GROUP t c =
     plain_done _ _ _ _ _ c.requires _ _ _ c.line_at-line.ensures c.if-line-eq-MQCFT_GROUP.false c.put_line-text.ensures

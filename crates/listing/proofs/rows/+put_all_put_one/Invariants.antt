@@ -12,8 +12,6 @@ decreases-put_all l = 2 * (10 - l.depth) + 1
 abbrev pub decreases-put_one : goal.decreases-put_one
 decreases-put_one l = 2 * (10 - l.depth)
 
-abbrev pub invariant-put_all-loop-left : goal.invariant-put_all-loop-left
-invariant-put_all-loop-left l = Rest (walk (whole l.s) l.place l.depth l.count) l.fn.out l.at l.s l.depth l.out l.text l.next l.left
-
-abbrev pub decreases-put_all-loop-left : goal.decreases-put_all-loop-left
-decreases-put_all-loop-left l = l.left
+abbrev pub invariant-put_all-loop : goal.invariant-put_all-loop
+invariant-put_all-loop l =
+    Rest (walk (whole l.s) l.place l.depth l.count) l.fn.out l.at l.s l.depth l.out l.behind.text l.behind.place l.counter

@@ -1,23 +1,19 @@
 -- The structures that were passed over, and what the meaning makes of their end.
-use Rattle.std.proofs.Common.{◌+◌}
-use Rattle.meaning.specs.Bytes.{part_of}
-use Rattle.walk.proofs.Answers.{passed_as}
-use Rattle.walk.proofs.Numbering.{Past, past, past_fault}
-use Rattle.pcf.proofs.Closes.{number_fault, number_end, number_long}
+use Rattle.std.proofs.Common.{arith}
+use lib.Seq.{length-take-le}
+use Rattle.walk.proofs.Numbering.{past}
+use Rattle.pcf.proofs.Closes.{number_end, number_long}
 use Rattle.pcf.proofs.message.structure_count.Goals as goal
 
-pub returns-in-Refused : goal.returns-in-Refused
-returns-in-Refused c =
-    number_fault c.args.msg.now c.args.part c.args.count _ _ (past_fault _ _ _ _ _ _ (passed_as c.over-passed.ensures c.in-Refused.is))
+pub overflow_cast-result : goal.overflow_cast-result
+overflow_cast-result c =
+    let w = past _ _ _ _ _ _ c.in_ok-passed.ensures in
+    omega (arith, w.room, w.end, c.requires.room, c.requires.most, length-take-le _ c.args.msg.now c.requires.there)
 
-pub returns-then-at-part : goal.returns-then-at-part
-returns-then-at-part c =
-    let a = c.args in
-    let met : Past (part_of a.msg.now a.part.end) (a.part.start + 36) 1 a.count c.in-Behind.at c.in-Behind.n = past _ _ _ _ _ _ (passed_as c.over-passed.ensures c.in-Behind.is) in
-    number_end a.msg.now a.part a.count _ _ met c.if-at-part.true
+pub returns-then-passed-part : goal.returns-then-passed-part
+returns-then-passed-part c =
+    number_end c.args.msg.now c.args.opening.part _ c.requires.there _ _ (past _ _ _ _ _ _ c.in_ok-passed.ensures) c.if-passed-part.true
 
-pub returns-else-at-part : goal.returns-else-at-part
-returns-else-at-part c =
-    let a = c.args in
-    let met : Past (part_of a.msg.now a.part.end) (a.part.start + 36) 1 a.count c.in-Behind.at c.in-Behind.n = past _ _ _ _ _ _ (passed_as c.over-passed.ensures c.in-Behind.is) in
-    number_long a.msg.now a.part a.count _ _ met c.if-at-part.false
+pub returns-else-passed-part : goal.returns-else-passed-part
+returns-else-passed-part c =
+    number_long c.args.msg.now c.args.opening.part _ c.requires.there _ _ (past _ _ _ _ _ _ c.in_ok-passed.ensures) c.if-passed-part.false

@@ -1,35 +1,27 @@
 -- The rows behind the counts, where the walk was not refused, and what the meaning makes of their end.
-use Rattle.std.proofs.Common.{◌+◌, arith}
-use Rattle.meaning.specs.Bytes.{part_of}
-use Rattle.walk.proofs.Answers.{ended_as}
+use Rattle.std.proofs.Common.{refl, arith}
+use Rattle.std.proofs.lemmas.Result.{err_from_is_err_and}
+use lib.Seq.{length-take-le}
 use Rattle.walk.proofs.Counting.{zeros_low}
-use Rattle.pcf.proofs.Openings.{walk_part}
-use Rattle.pcf.proofs.Closes.{Counted, counted_rows, counted_end, closed_long, closed_fault}
+use Rattle.pcf.proofs.Closes.{counted_rows, tally_fault, tally_end, tally_long}
 use Rattle.pcf.proofs.message.structures.Goals as goal
 
-pub siblings-walked-requires : goal.siblings-walked-requires
-siblings-walked-requires c =
-    record { there = c.requires.there; most = c.requires.most; low = zeros_low 27 _ }
+pub siblings-requires : goal.siblings-requires
+siblings-requires c = record { most = omega (arith, c.requires.most, length-take-le _ c.args.msg.now c.requires.there); low = zeros_low 27 _ }
+
+pub returns-in_err-walked : goal.returns-in_err-walked
+returns-in_err-walked c =
+    let p = err_from_is_err_and c.from_residual.result c.from_residual.ensures.1 in
+    rw (p.1, p.2) (tally_fault c.args.msg.now c.args.opening.part _ c.requires.there _ c.in_err-walked.ensures)
+
+pub returns-then-walked-part : goal.returns-then-walked-part
+returns-then-walked-part c =
+    tally_long c.args.msg.now c.args.opening.part _ c.requires.there _ _ (counted_rows _ _ _ _ _ _ c.in_ok-walked.ensures) c.if-walked-part.true _ refl
 
 pub total-requires : goal.total-requires
 total-requires c =
-    let a = c.args in
-    let met : Counted (part_of a.msg.now a.part.end) (a.part.start + 36) 1 a.count c.in-Behind.at c.siblings-walked.result.tally = counted_rows _ _ _ _ _ _ (ended_as c.siblings-walked.ensures c.in-Behind.is) in
-    omega (arith, met.past.number, met.past.room, c.if-at-end.true, c.requires.most)
+    let w = (counted_rows _ _ _ _ _ _ c.in_ok-walked.ensures).past in omega (arith, w.number, w.room, c.if-walked-part.false, c.requires.most)
 
-pub returns-in-Refused : goal.returns-in-Refused
-returns-in-Refused c =
-    let a = c.args in
-    rw (walk_part a.msg.now a.part (a.part.start + 36) 1 a.count, closed_fault _ _ _ _ a.part.end _ _ _ (ended_as c.siblings-walked.ensures c.in-Refused.is)) c.refused.ensures
-
-pub returns-then-at-end : goal.returns-then-at-end
-returns-then-at-end c =
-    let a = c.args in
-    let met : Counted (part_of a.msg.now a.part.end) (a.part.start + 36) 1 a.count c.in-Behind.at c.siblings-walked.result.tally = counted_rows _ _ _ _ _ _ (ended_as c.siblings-walked.ensures c.in-Behind.is) in
-    rw (walk_part a.msg.now a.part (a.part.start + 36) 1 a.count) (counted_end _ _ _ _ _ _ _ met c.if-at-end.true _ c.total.ensures)
-
-pub returns-else-at-end : goal.returns-else-at-end
-returns-else-at-end c =
-    let a = c.args in
-    let met : Counted (part_of a.msg.now a.part.end) (a.part.start + 36) 1 a.count c.in-Behind.at c.siblings-walked.result.tally = counted_rows _ _ _ _ _ _ (ended_as c.siblings-walked.ensures c.in-Behind.is) in
-    rw (walk_part a.msg.now a.part (a.part.start + 36) 1 a.count, closed_long _ _ _ _ _ _ _ met.past c.if-at-end.false) c.refused-else-at-end.ensures
+pub returns : goal.returns
+returns c =
+    tally_end c.args.msg.now c.args.opening.part _ c.requires.there _ _ (counted_rows _ _ _ _ _ _ c.in_ok-walked.ensures) c.if-walked-part.false _ c.total.ensures

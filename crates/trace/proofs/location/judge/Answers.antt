@@ -2,30 +2,30 @@
 use Rattle.std.proofs.Common.{true, false, sym, ◌∙◌}
 use Rattle.trace.proofs.Locating.{attributes_from, no_count, some_count, judge_header, judge_routes, judge_members}
 use Rattle.trace.proofs.location.judge.Goals as goal
+use Rattle.trace.proofs.location.judge.Goals.{then-opening-lt1-via-then-opening-lt1, then-opening-lt1-via-else-opening-lt1+then-not-has_header}
 
-pub returns-then-count-lt1 : goal.returns-then-count-lt1
-returns-then-count-lt1 c =
+pub returns-then-opening-lt1 : goal.returns-then-opening-lt1
+returns-then-opening-lt1 c =
     let a = c.args in
     let s = c.requires in
-    c.stopped.ensures ∙ judge_header a.sheet _ a.routes a.activity (no_count a.msg.now a.part s.least s.sound a.count s.read c.if-count-lt1.true)
+    elim c.then-opening-lt1.branch [
+      | then-opening-lt1-via-then-opening-lt1 w ↦
+          judge_header a.sheet _ a.tops.routes a.tops.activities.group (no_count a.msg.now a.opening.part s.least s.sound a.opening.count s.read w.if-opening-lt1.true)
+      | then-opening-lt1-via-else-opening-lt1+then-not-has_header w ↦
+          judge_header a.sheet _ a.tops.routes a.tops.activities.group
+          (some_count a.msg.now a.opening.part s.least s.sound a.opening.count s.read w.if-opening-lt1.false false (sym w.has_header.ensures ∙ w.if-not-has_header.true))
+    ]
 
-pub returns-then-not-has_header : goal.returns-then-not-has_header
-returns-then-not-has_header c =
+pub returns-then-tops-ne1 : goal.returns-then-tops-ne1
+returns-then-tops-ne1 c =
     let a = c.args in
     let s = c.requires in
-    c.stopped-then-not-has_header.ensures ∙ judge_header a.sheet _ a.routes a.activity
-    (some_count a.msg.now a.part s.least s.sound a.count s.read c.if-count-lt1.false false (sym c.has_header.ensures ∙ c.if-not-has_header.true))
-
-pub returns-then-routes-ne1 : goal.returns-then-routes-ne1
-returns-then-routes-ne1 c =
-    let a = c.args in
-    let s = c.requires in
-    c.stopped-then-routes-ne1.ensures ∙ judge_routes a.sheet _ a.routes a.activity
-    (some_count a.msg.now a.part s.least s.sound a.count s.read c.if-count-lt1.false true (sym c.has_header.ensures ∙ c.if-not-has_header.false)) c.if-routes-ne1.true
+    judge_routes a.sheet _ a.tops.routes a.tops.activities.group
+    (some_count a.msg.now a.opening.part s.least s.sound a.opening.count s.read c.if-opening-lt1.false true (sym c.has_header.ensures ∙ c.if-not-has_header.false)) c.if-tops-ne1.true
 
 pub returns : goal.returns
 returns c =
     let a = c.args in
     let s = c.requires in
-    c.attributes.ensures ∙ attributes_from a.sheet a.msg.now a.part _ _ a.activity ∙ judge_members a.sheet _ a.routes a.activity
-    (some_count a.msg.now a.part s.least s.sound a.count s.read c.if-count-lt1.false true (sym c.has_header.ensures ∙ c.if-not-has_header.false)) c.if-routes-ne1.false
+    c.attributes.ensures ∙ attributes_from a.sheet a.msg.now a.opening.part _ _ a.tops.activities.group s.there ∙ judge_members a.sheet _ a.tops.routes a.tops.activities.group
+    (some_count a.msg.now a.opening.part s.least s.sound a.opening.count s.read c.if-opening-lt1.false true (sym c.has_header.ensures ∙ c.if-not-has_header.false)) c.if-tops-ne1.false

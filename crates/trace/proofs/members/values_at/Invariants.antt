@@ -1,11 +1,8 @@
 -- The invariant: the first k values are read.
-use Rattle.std.proofs.Common.{◌≡◌, ◌+◌, ◌-◌, ◌≤◌, length, get_or}
+use Rattle.std.proofs.Common.{◌≡◌, ◌+◌, length, get_or}
 use Rattle.meaning.specs.Bytes.{number}
 use Rattle.meaning.proofs.Lists.{Filled}
 use Rattle.trace.proofs.members.values_at.Given as goal
 
 abbrev pub invariant-loop-k : goal.invariant-loop-k
-invariant-loop-k l = (l.k ≤ 8) × (length l.values ≡ 8) × Filled (λ j. number l.msg (get_or l.places j 0 + 12)) l.values l.k
-
-abbrev pub decreases-loop-k : goal.decreases-loop-k
-decreases-loop-k l = 8 - l.k
+invariant-loop-k l = (length l.values ≡ 8) × Filled (λ j. number l.s (get_or l.places j 0 + 12)) l.values l.k

@@ -1,42 +1,23 @@
 -- The structure is sound, so that its fields are its row's, and its members are sound too.
 use Rattle.std.proofs.Common.{arith}
-use Rattle.walk.proofs.Answers.{passed_as}
 use Rattle.walk.proofs.Numbering.{past, past_fault}
-use Rattle.trace.proofs.Skipping.{known_room, known_fits, behind_plain, behind_shallow, behind_never, behind_group}
+use Rattle.trace.proofs.Skipping.{behind_plain, behind_shallow, behind_never, behind_group}
 use Rattle.trace.proofs.passing.behind.Goals as goal
-
-pub overflow_add-place : goal.overflow_add-place
-overflow_add-place c = omega (arith, known_room _ _ _ c.requires.sound)
-
-pub number_at-requires : goal.number_at-requires
-number_at-requires c = omega (arith, known_room _ _ _ c.requires.sound, c.requires.there)
-
-pub overflow_add-next : goal.overflow_add-next
-overflow_add-next c = omega (arith, known_fits c.args.msg.now c.args.end c.args.place c.args.depth _ c.requires.sound c.number_at.ensures)
-
-pub number_at-requires-2 : goal.number_at-requires-2
-number_at-requires-2 c = omega (arith, known_room _ _ _ c.requires.sound, c.requires.there)
 
 pub returns-then-number_at-ne-MQCFT_GROUP : goal.returns-then-number_at-ne-MQCFT_GROUP
 returns-then-number_at-ne-MQCFT_GROUP c =
-    behind_plain (record { sound = c.requires.sound; is_size = c.number_at.ensures; is_kind = c.number_at-2.ensures }) c.if-number_at-ne-MQCFT_GROUP.true
+    behind_plain (record { sound = c.requires; is_size = c.number_at.ensures; is_kind = c.number_at-2.ensures }) c.if-number_at-ne-MQCFT_GROUP.true
 
 pub overflow_add-depth : goal.overflow_add-depth
 overflow_add-depth c =
-    omega (arith, behind_shallow (record { sound = c.requires.sound; is_size = c.number_at.ensures; is_kind = c.number_at-2.ensures }) c.if-number_at-ne-MQCFT_GROUP.false)
+    omega (arith, behind_shallow (record { sound = c.requires; is_size = c.number_at.ensures; is_kind = c.number_at-2.ensures }) c.if-number_at-ne-MQCFT_GROUP.false)
 
-pub overflow_add-place-2 : goal.overflow_add-place-2
-overflow_add-place-2 c = omega (arith, known_room _ _ _ c.requires.sound)
+pub unreachable-requires : goal.unreachable-requires
+unreachable-requires c =
+    behind_never (record { sound = c.requires; is_size = c.number_at.ensures; is_kind = c.number_at-2.ensures }) c.if-number_at-ne-MQCFT_GROUP.false _ c.number_at-3.ensures _ _
+    (past_fault _ _ _ _ _ _ c.in-Err.ensures)
 
-pub number_at-requires-3 : goal.number_at-requires-3
-number_at-requires-3 c = omega (arith, known_room _ _ _ c.requires.sound, c.requires.there)
-
-pub returns-in-Refused : goal.returns-in-Refused
-returns-in-Refused c =
-    absurd (behind_never (record { sound = c.requires.sound; is_size = c.number_at.ensures; is_kind = c.number_at-2.ensures }) c.if-number_at-ne-MQCFT_GROUP.false _ c.number_at-3.ensures _ _
-    (past_fault _ _ _ _ _ _ (passed_as c.over-inner.ensures c.in-Refused.is)))
-
-pub returns-in-Behind : goal.returns-in-Behind
-returns-in-Behind c =
-    let w = past _ _ _ _ _ _ (passed_as c.over-inner.ensures c.in-Behind.is) in
-    behind_group (record { sound = c.requires.sound; is_size = c.number_at.ensures; is_kind = c.number_at-2.ensures }) c.if-number_at-ne-MQCFT_GROUP.false _ c.number_at-3.ensures w.rows _ w.over
+pub returns : goal.returns
+returns c =
+    let w = past _ _ _ _ _ _ c.in-Ok.ensures in
+    behind_group (record { sound = c.requires; is_size = c.number_at.ensures; is_kind = c.number_at-2.ensures }) c.if-number_at-ne-MQCFT_GROUP.false _ c.number_at-3.ensures w.rows _ w.over

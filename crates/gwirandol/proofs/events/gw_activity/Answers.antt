@@ -1,9 +1,0 @@
--- `events::gw_activity` meets its contract: what the event answers is brief.
-use Rattle.std.proofs.Common.{sym, ap, subst}
-use Rattle.meaning.specs.Event.{Outcome}
-use Rattle.codes.specs.Events.{Brief}
-use Rattle.gwirandol.proofs.Applied.{event_brief}
-use Rattle.gwirandol.proofs.events.gw_activity.Goals as goal
-
-pub told-requires : goal.told-requires
-told-requires c = subst Brief (sym (ap (λ (o : Outcome). o.answer) c.activity-found.ensures)) (event_brief _ _ _)

@@ -1,2 +1,0 @@
-mod Plans
-mod Answers
