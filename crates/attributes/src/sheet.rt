@@ -5,7 +5,7 @@ ghost use Rattle.meaning.specs.Trace.{absent, sheet_ok};
 use structure::TWO_TO_31;
 
 // The number at `i` does not stand again behind it. All tests are made, whatever one of them says: without branches this is
-// short enough to be compiled into those who ask it: with branches, as `all` has them, composing took 1.39 of plain Rust's time, so
+// short enough to be compiled into those who ask it. With branches, as `all` has them, composing took 1.39 of plain Rust's time, so
 // 0.54.
 #[tactic(auto, using(crate::proofs::Sheets::absent_more, crate::proofs::Sheets::absent_all))]
 fn alone(sheet: [u32; 8], i: usize) -> bool

@@ -4,7 +4,8 @@ ghost use Rattle.refusals.specs.Refusals.{number_of, place_of};
 
 use refusals::Refusal;
 
-// What an accepted call gives.
+// What an accepted call gives. (`as`, here and wherever a `usize` meets a `u32` or `u64`: Rust has no `From` for it, and where it
+// narrows, the number is proved to fit, so that a `TryFrom` would add a refusal that never comes.)
 pub fn given(n: usize) -> u64
     requires { n ≤ 4294967296 }
     ensures { result ≡ n * 32 }

@@ -66,7 +66,7 @@ pub fn compose(
     Ok(length)
 }
 
-// COMPOSE A PLAIN MESSAGE: its part, with nothing around it.
+// COMPOSE A PLAIN MESSAGE: its part, with nothing around it. (C has two functions to compose; this one calls the other.)
 pub fn compose_plain(sheet: [u32; 8], values: [u32; 8], buf: &mut [u8]) -> Result<usize, Refusal>
     ensures { composed_into result buf.new ≡ compose_of (plain_terms sheet) values no_embedding [] buf.old }
 {

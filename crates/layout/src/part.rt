@@ -88,7 +88,8 @@ fn embedded_ok(msg: &[u8]) -> bool
 }
 
 // THE PART of the message in the first `len` bytes, or 1, then 18. Here and in all that asks for a message's part, buffer and
-// length are two parameters: C hands both, and a length above the buffer is no slice but a refusal, 1.
+// length are two parameters: C hands both, a length above the buffer is no slice but a refusal, 1, and an event
+// needs the room behind the message.
 #[tactic(auto, using(crate::proofs::Locations::short, crate::proofs::Locations::found_plain, crate::proofs::Locations::unsound, crate::proofs::Locations::found_embedded))]
 pub fn locate(msg: &[u8], len: usize, layout: Layout) -> Result<Part, Refusal>
     ensures { answered (part_at msg.now) result ≡ located (layout_of layout) msg.now len }

@@ -52,8 +52,8 @@ fn reply_owed(values: [u32; 8]) -> bool
 }
 
 // The group is to be appended, and the message would be longer than its buffer or than 65,536 bytes. That a group has 65,500 bytes
-// at most and a message 65,536 was judged where they come from, and is asked by three functions here: a struct of these two
-// numbers, which only these three see together, would be no plainer.
+// at most and a message 65,536 was judged where they come from, and is asked by three functions here (`lacks_report` asks the first
+// alone): a struct of these two numbers, which only these three see together, would be no plainer.
 fn lacks_room(appends: bool, size: usize, len: usize, room: usize) -> bool
     requires { (size ≤ 65500) × (len ≤ 65536) }
     ensures { result ≡ (appends && not (room_for (len + size) room)) }
