@@ -163,11 +163,11 @@ module _ (tm : Terms) (msg : List ℕ) where
       spot : spot_in (nth_top tm.layout msg k) ≡ when (is_group MQGACF_ACTIVITY top) (Some its.row.place) None
       spot = ap spot_in found
 
-      -- what is not an Activity group has no line
-      other_next : is_group MQGACF_ACTIVITY top ≡ false → Upto tm msg (k + 1) n at
-      other_next h =
-          let same = groups_same MQGACF_ACTIVITY u.passed its.row its.inside is_top_lem deep h in
-          let rest : activities u.left ≡ activities its.rest = left_groups ∙ rw h refl in
+      -- THE NEXT TURN starts behind it, with so many groups and so much text
+      turned : (n' at' : ℕ) → n' ≡ length (activities (u.passed ++ (its.row ∷ its.inside)))
+          → activities (u.passed ++ (its.row ∷ its.inside)) ++ activities its.rest ≡ activities u.trace.rows
+          → at' + 72 ≤ 2 * its.next → n' ≤ k + 1 → Upto tm msg (k + 1) n' at'
+      turned n' at' counted whole spent few =
           record {
             trace = u.trace;
             reads = u.reads;
@@ -178,11 +178,20 @@ module _ (tm : Terms) (msg : List ℕ) where
             total = omega (arith, u.total);
             before = passed_it;
             after = its.others;
-            counted = u.counted ∙ ap length (sym same);
-            whole = ap (λ (l : List Top). l ++ activities its.rest) same ∙ ap (λ (l : List Top). activities u.passed ++ l) (sym rest) ∙ u.whole;
-            spent = omega (arith, u.spent, filled);
-            few = omega (arith, u.few);
+            counted = counted;
+            whole = whole;
+            spent = spent;
+            few = few;
           }
+
+      -- what is not an Activity group has no line
+      other_next : is_group MQGACF_ACTIVITY top ≡ false → Upto tm msg (k + 1) n at
+      other_next h =
+          let same = groups_same MQGACF_ACTIVITY u.passed its.row its.inside is_top_lem deep h in
+          let rest : activities u.left ≡ activities its.rest = left_groups ∙ rw h refl in
+          turned n at (u.counted ∙ ap length (sym same))
+          (ap (λ (l : List Top). l ++ activities its.rest) same ∙ ap (λ (l : List Top). activities u.passed ++ l) (sym rest) ∙ u.whole)
+          (omega (arith, u.spent, filled)) (omega (arith, u.few))
 
       pub is_other : None ≡ spot_in (nth_top tm.layout msg k) → Upto tm msg (k + 1) n at
       is_other e = go (is_group MQGACF_ACTIVITY top) refl
@@ -227,23 +236,10 @@ module _ (tm : Terms) (msg : List ℕ) where
         line_next : (id : ℕ) → Upto tm msg (k + 1) (n + 1) (at + length (hop_of tm msg id n))
         line_next id =
             let one = groups_more MQGACF_ACTIVITY u.passed its.row its.inside is_top_lem deep yes in
-            record {
-              trace = u.trace;
-              reads = u.reads;
-              place = its.next;
-              passed = u.passed ++ (its.row ∷ its.inside);
-              left = its.rest;
-              due = u.due - 1;
-              total = omega (arith, u.total);
-              before = passed_it;
-              after = its.others;
-              counted = omega (arith, u.counted, ap length one, length-append (activities u.passed) (top ∷ []));
-              whole =
-                  ap (λ (l : List Top). l ++ activities its.rest) one ∙ append_assoc (activities u.passed) (top ∷ []) (activities its.rest)
-                  ∙ ap (λ (l : List Top). activities u.passed ++ l) (sym rest_groups) ∙ u.whole;
-              spent = omega (arith, u.spent, filled, line_short id);
-              few = omega (arith, u.few);
-            }
+            turned (n + 1) (at + length (hop_of tm msg id n)) (omega (arith, u.counted, ap length one, length-append (activities u.passed) (top ∷ [])))
+            (ap (λ (l : List Top). l ++ activities its.rest) one ∙ append_assoc (activities u.passed) (top ∷ []) (activities its.rest)
+            ∙ ap (λ (l : List Top). activities u.passed ++ l) (sym rest_groups) ∙ u.whole)
+            (omega (arith, u.spent, filled, line_short id)) (omega (arith, u.few))
 
         here_now : Here tm msg k n at its.row.place
         here_now = record {
