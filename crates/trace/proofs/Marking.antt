@@ -6,7 +6,7 @@ use Prim.Native.Nat.{ℕ, ◌+◌, ◌<◌}
 use native.Mathlib.Omega.{arith}
 use lib.ListN.{length, get_or, length-map}
 use Rattle.std.proofs.Common.{take, set, replicate, length-set, get_or-set_same, get_or-set_other, ◌≤◌}
-use borrow.Author.Tests.{eqb-true, eqb-false}
+use borrow.Author.Tests.{eqb-true, eqb-false, eq-eqb, ne_eqb}
 use lib.Seq.{ext_get_or}
 use Rattle.std.proofs.lemmas.List.{get_or-map, get_or-replicate, take_all}
 use Rattle.std.specs.Prelude.{Some, None}
@@ -17,15 +17,16 @@ use Rattle.meaning.specs.Names.{MQCFT_INTEGER}
 use Rattle.meaning.specs.Answer.{Result, accepted, refused, and_then, cons_if}
 use Rattle.meaning.specs.Structure.{Row}
 use Rattle.meaning.specs.Walk.{Walked, walked, walk, rows_in}
-use Rattle.meaning.specs.Trace.{is_direct, direct_in, named, one_integer, each_once, place_of_first, places_of, value_at, values_at}
+use Rattle.meaning.specs.Trace.{is_direct, direct_in, named, one_integer, each_once, place_of_first, places_of, value_at, values_at, identifiers_ok, sheet_ok}
 use Rattle.meaning.proofs.Tests.{clash, and_true}
 use Rattle.meaning.proofs.Structures.{row_at_lem}
 use Rattle.meaning.proofs.Walks.{walks, walks_depth, In, here, there}
 use Rattle.meaning.proofs.Fuel.{walk_zero}
-use Rattle.meaning.proofs.Attributes.{get_d_map, once_at}
+use Rattle.meaning.proofs.Attributes.{get_d_map, once_at, identifiers_at}
+use Rattle.meaning.proofs.Composed.{sheet_length}
 use Rattle.meaning.proofs.Tops.{direct_next}
 use Rattle.trace.specs.Passing.{crossed, behind_of}
-use Rattle.trace.specs.Marks.{onto, noted, noted_in, mark_from, Marked, is_at, place_in, all_places}
+use Rattle.trace.specs.Marks.{onto, noted, noted_in, mark_from, Noted, Marked, is_at, place_in, all_places}
 use Rattle.trace.specs.declared.members.Mark.{Mark}
 use Rattle.trace.specs.declared.members.Mark.TheVariants.{Absent, Fault, At}
 use Rattle.trace.proofs.Turns.{Over, walk_over}
@@ -38,21 +39,29 @@ values_read s places v eight n h =
     ext_get_or 0 v (map (value_at (whole s)) places) (n ∙ sym (length-map places (value_at (whole s)) ∙ eight))
     (λ j i. h j (omega arith) ∙ sym (get_d_map (value_at (whole s)) places j (omega arith)))
 
--- THE MARKS one after the other: up to k they are as f has them, from there on as they were
-abbrev pub MarkedTo : (ℕ → Mark) → List Mark → List Mark → ℕ → Type 0
-MarkedTo f was now k =
-    (length now ≡ 8) × ((j : ℕ) → j < k → get_or now j Absent ≡ f j) × ((j : ℕ) → k ≤ j → get_or now j Absent ≡ get_or was j Absent)
-
 pub none_marked : (j : ℕ) → j < 8 → get_or (replicate 8 Absent) j Absent ≡ Absent
 none_marked j h = get_or-replicate 8 j Absent Absent h
 
-pub marked_next : (f : ℕ → Mark) (was now : List Mark) (k : ℕ) (x : Mark) → k < 8 → x ≡ f k → MarkedTo f was now k → MarkedTo f was (set now k x) (k + 1)
-marked_next f was now k x h e m =
-    (simp length-set m.0, λ j i. go j i (eqb j k) refl, λ j i. get_or-set_other now k j x Absent (λ z. omega arith) ∙ m.2 j (omega arith))
+-- THE ONE MARK that a member changes, the k-th: no other identifier of a sound sheet is the member's
+pub marked_alone : (sheet : List ℕ) (was : List Mark) (kind parameter place k : ℕ) → sheet_ok sheet ≡ true → length was ≡ 8 → k < 8
+    → parameter ≡ get_or sheet k 0 → Noted sheet was kind parameter place (set was k (onto (get_or was k Absent) kind place))
+unfolding noted sheet_ok
+marked_alone sheet was kind parameter place k ok eight h e =
+    record { eight = simp length-set eight; each = λ j i. go j i (eqb j k) refl }
   where
-    go : (j : ℕ) → j < k + 1 → (b : Bool) → eqb j k ≡ b → get_or (set now k x) j Absent ≡ f j
-    go j i true q = let z = eqb-true j k q in ap (λ (y : ℕ). get_or (set now k x) y Absent) z ∙ get_or-set_same now k x Absent (omega (arith, m.0)) ∙ e ∙ ap f (sym z)
-    go j i false q = let z = eqb-false j k q in get_or-set_other now k j x Absent z ∙ m.1 j (omega arith)
+    now : List Mark
+    now = set was k (onto (get_or was k Absent) kind place)
+
+    go : (j : ℕ) → j < 8 → (b : Bool) → eqb j k ≡ b → get_or now j Absent ≡ noted (get_or sheet j 0) (get_or was j Absent) kind parameter place
+    go j i true q =
+        let z : j ≡ k = eqb-true j k q in
+        subst (λ (y : ℕ). get_or now y Absent ≡ noted (get_or sheet y 0) (get_or was y Absent) kind parameter place) (sym z)
+        (get_or-set_same was k _ Absent (omega (arith, eight)) ∙ rw (eq-eqb parameter (get_or sheet k 0) e) refl)
+    go j i false q =
+        let z = eqb-false j k q in
+        let n = sheet_length sheet ok in
+        get_or-set_other was k j _ Absent z
+        ∙ rw (ne_eqb parameter (get_or sheet j 0) (λ p. z (identifiers_at sheet (and_true (eqb (length sheet) 8) (identifiers_ok sheet) ok).1 j k (omega (arith, n)) (omega (arith, n)) (sym p ∙ e)))) refl
 
 -- the places, when all eight marks are places
 pub all_places_at : (marks : List Mark) (places : List ℕ) (k : ℕ) → length marks ≡ 8 → length marks ≤ k → length places ≡ 8 → list_all is_at (take k marks) ≡ true

@@ -2,6 +2,7 @@
 ghost use Rattle.std.specs.Prelude.{◌≡◌, true};
 ghost use Rattle.meaning.specs.Walk.{walk};
 ghost use Rattle.meaning.specs.Bytes.{whole};
+ghost use Rattle.meaning.specs.Trace.{sheet_ok};
 ghost use Rattle.refusals.specs.Refusals.{answer};
 ghost use Rattle.layout.specs.Layouts.{part_at};
 ghost use Rattle.attributes.specs.Terms.{terms_of};
@@ -34,7 +35,8 @@ fn attributes(
     route: Group,
     activity: Group,
 ) -> Result<Traced, Refusal>
-    requires { is_sound (walk (whole s.now) route.inside 2 route.members) ≡ true }
+    requires surveyed { is_sound (walk (whole s.now) route.inside 2 route.members) ≡ true }
+    requires sheeted { sheet_ok sheet ≡ true }
     ensures { answer result ≡ attributes_in sheet (whole s.now) route.inside route.members activity part }
 {
     let marks = marks_of(s, route.inside, route.members, sheet);
@@ -55,7 +57,8 @@ fn attributes(
 
 // 6, then 7, then 8: the header is a trace's, and there is exactly one TraceRoute group.
 fn judge(msg: &[u8], opening: Opening, sheet: [u32; 8], tops: Tops) -> Result<Traced, Refusal>
-    requires { Headed msg.now opening tops.routes }
+    requires headed { Headed msg.now opening tops.routes }
+    requires sheeted { sheet_ok sheet ≡ true }
     ensures { answer result ≡ judged_in sheet (part_at msg.now opening.part) tops.routes tops.activities.group }
 {
     let part = opening.part;

