@@ -5,7 +5,7 @@ ghost use Rattle.codes.specs.Codes.{code};
 ghost use Rattle.codes.specs.Options.{layout_in};
 ghost use Rattle.gwirandol.specs.Structures.{Tallies, Lists, Steps};
 
-use codes::{coded, given, layout_of, refused};
+use codes::{coded, layout_of};
 use pcf::{Cursor, Stepped};
 
 // CHECK: the number of structures, or 1, 18, or 2 to 5.
@@ -28,18 +28,11 @@ pub extern "C" fn gw_tally(
 ) -> u64
     ensures { Tallies (layout_in options) buffer.now length result counts.new }
 {
-    match pcf::tally(buffer, length, layout_of(options)) {
-        Ok(tallied) => {
-            // an array leaves a struct by a variable: the borrow checker knows no other way
-            let told = tallied.counts;
-            *counts = told;
-            given(tallied.number as usize)
-        }
-        Err(r) => {
-            *counts = [0; 27];
-            refused(r)
-        }
-    }
+    let tallied = pcf::tally(buffer, length, layout_of(options));
+    // an array leaves a struct by a variable: the borrow checker knows no other way
+    let told = tallied.counts;
+    *counts = told;
+    coded(tallied.answer)
 }
 
 // LIST: the text's length, or 1, 18, or 2 to 5. A refusal leaves the text as it was.

@@ -7,12 +7,13 @@ use Rattle.meaning.specs.Structure.{Row}
 use Rattle.meaning.specs.Walk.{walk}
 use Rattle.meaning.specs.Layout.{Layout, located}
 use Rattle.meaning.specs.Message.{parameter_count, first_place, header_ok, closed, check, types, tally_of, tally, Stepped as Step}
-use Rattle.refusals.specs.Refusals.{answered}
+use Rattle.refusals.specs.Refusals.{answer, answered}
 use Rattle.refusals.specs.declared.Refusal.{Refusal}
 use Rattle.structure.specs.Rows.{row_of}
 use Rattle.layout.specs.Layouts.{part_at}
 use Rattle.layout.specs.declared.part.Part.{Part as PartIn}
 use Rattle.pcf.specs.declared.message.Opening.{Opening}
+use Rattle.pcf.specs.declared.message.Counts.{Counts}
 use Rattle.pcf.specs.declared.message.Tallied.{Tallied}
 use Rattle.pcf.specs.declared.message.Stepped.{Stepped}
 
@@ -53,20 +54,25 @@ pub record HeaderRead (msg : List ℕ) (o : Opening) : Type 0 where
 abbrev pub stepped_of : Stepped → Step
 stepped_of s = record { row = row_of s.row; next = s.next }
 
-abbrev pub total_of : Tallied → ℕ
+abbrev pub total_of : Counts → ℕ
 total_of t = t.number
 
 -- the counts of a tally, all zero if it was refused
-abbrev pub counts_of : Result Tallied Refusal → List ℕ
+abbrev pub counts_of : Result Counts Refusal → List ℕ
 counts_of (Ok t) = t.counts
 counts_of (Err r) = replicate types 0
 
 -- t is the answer and the counts for these rows, or for what stands in their place
-pub record RowsTallied (rows : Meant (List Row)) (t : Result Tallied Refusal) : Type 0 where
+pub record RowsTallied (rows : Meant (List Row)) (t : Result Counts Refusal) : Type 0 where
   pub answer : answered total_of t ≡ and_then rows (λ rs. accepted (length rs))
   pub counts : counts_of t ≡ tally_of rows
 
--- t is the check's answer and the tally of the message
-pub record TalliedAs (l : Layout) (buf : List ℕ) (len : ℕ) (t : Result Tallied Refusal) : Type 0 where
+-- t is the check's answer and, if it is no refusal, the tally of the message
+pub record CountedAs (l : Layout) (buf : List ℕ) (len : ℕ) (t : Result Counts Refusal) : Type 0 where
   pub answer : answered total_of t ≡ check l buf len
   pub counts : counts_of t ≡ tally l buf len
+
+-- t is the check's answer and the tally of the message, refused or not
+pub record TalliedAs (l : Layout) (buf : List ℕ) (len : ℕ) (t : Tallied) : Type 0 where
+  pub answer : answer t.answer ≡ check l buf len
+  pub counts : t.counts ≡ tally l buf len

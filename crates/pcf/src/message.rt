@@ -3,7 +3,7 @@ ghost use Rattle.std.specs.Prelude.{◌≡◌, ◌<◌, sum};
 ghost use Rattle.meaning.specs.Message.{header_ok, check, step};
 ghost use Rattle.refusals.specs.Refusals.{answer, answered};
 ghost use Rattle.layout.specs.Layouts.{layout_of, part_at};
-ghost use Rattle.pcf.specs.Messages.{opened, opening_of, stepped_of, structures_of, structure_count, Reaches, HeaderRead, RowsTallied, TalliedAs};
+ghost use Rattle.pcf.specs.Messages.{opened, opening_of, stepped_of, structures_of, structure_count, Reaches, HeaderRead, RowsTallied, CountedAs, TalliedAs};
 
 use layout::{HEADER, Layout, Part, locate};
 use refusals::Refusal;
@@ -20,8 +20,15 @@ pub struct Opening {
 
 // The number of structures, nested ones included, and how many there are of each type, 0 to 26.
 #[derive(Clone, Copy, Debug, PartialEq, Eq)]
+struct Counts {
+    number: u32,
+    counts: [u32; 27],
+}
+
+// The check's answer, and beside it the counts, for the rules say what they are of a refused message too: all 0.
+#[derive(Clone, Copy, Debug, PartialEq, Eq)]
 pub struct Tallied {
-    pub number: u32,
+    pub answer: Result<u32, Refusal>,
     pub counts: [u32; 27],
 }
 
@@ -100,7 +107,7 @@ fn total(counts: [u32; 27]) -> u32
 
 // A part with a sound header: all its structures are walked over, and nothing may follow. What it shares with `structure_count` is
 // that last test; one function for both would have to carry the counts for the check too.
-fn structures(msg: &[u8], opening: Opening) -> Result<Tallied, Refusal>
+fn structures(msg: &[u8], opening: Opening) -> Result<Counts, Refusal>
     requires { Reaches msg.now opening.part }
     ensures { RowsTallied (structures_of (part_at msg.now opening.part) opening.count) result }
 {
@@ -116,18 +123,38 @@ fn structures(msg: &[u8], opening: Opening) -> Result<Tallied, Refusal>
         return Err(Refusal::LeftOver(walked.behind));
     }
     let counts = walked.seen;
-    Ok(Tallied {
+    Ok(Counts {
         number: total(counts),
         counts,
     })
 }
 
-// TALLY: how many structures of each type a message has, and in all; or 1, 18, or 2 to 5, as the check answers.
+// How many structures of each type a message has, and in all; or 1, 18, or 2 to 5, as the check answers.
 #[tactic(auto, using(crate::proofs::Openings::opened_reaches, crate::proofs::Openings::scan_opened), unfolding(meaning::specs::Message::check, meaning::specs::Message::tally))]
-pub fn tally(msg: &[u8], len: usize, layout: Layout) -> Result<Tallied, Refusal>
-    ensures { TalliedAs (layout_of layout) msg.now len result }
+fn counted(msg: &[u8], len: usize, layout: Layout) -> Result<Counts, Refusal>
+    ensures { CountedAs (layout_of layout) msg.now len result }
 {
     structures(msg, opened(msg, len, layout)?)
+}
+
+// TALLY: how many structures of each type a message has, beside the check's answer.
+pub fn tally(msg: &[u8], len: usize, layout: Layout) -> Tallied
+    ensures { TalliedAs (layout_of layout) msg.now len result }
+{
+    match counted(msg, len, layout) {
+        Ok(found) => {
+            // an array leaves a struct by a variable: the borrow checker knows no other way
+            let counts = found.counts;
+            Tallied {
+                answer: Ok(found.number),
+                counts,
+            }
+        }
+        Err(r) => Tallied {
+            answer: Err(r),
+            counts: [0; 27],
+        },
+    }
 }
 
 // ONE STRUCTURE AT A TIME: the structure at any place, taken to have any depth, and the place behind it; or 1 or 18, then 3 or
