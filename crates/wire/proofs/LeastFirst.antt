@@ -29,7 +29,13 @@ module _ {x a b c d : ℕ} (h : LeastFirst x a b c d) where
 
   -- turned round, they are the same four from the other end
   pub turned_round : {r : ℕ} → LeastFirst r (x / 16777216 % 256) (x / 65536 % 256) (x / 256 % 256) (x % 256) → LeastFirst r d c b a
-  turned_round {r} t = rw (byte_1.0, byte_2.0, byte_3.0, byte_4) at t
+  turned_round {r} t =
+      let same = bytes_of in
+      let first : x % 256 ≡ a = cc same in
+      let second : x / 256 % 256 ≡ b = cc same in
+      let third : x / 65536 % 256 ≡ c = cc same in
+      let fourth : x / 16777216 % 256 ≡ d = cc same in
+      rw (first, second, third, fourth) at t
 
   -- which is what the library's swap gives, so that the first byte counts most
   pub swapped : {r : ℕ} → r ≡ swap_bytes w32 x → r ≡ ((a * 256 + b) * 256 + c) * 256 + d
